@@ -5,15 +5,16 @@
 
 PROGRAM is the built program, or crates/fuseworld/out/fuseworld. `fuseworld serve` and the server of tests/drive_server.py are
 driven under HONEST seeds each, 20 if it is left out: nothing is said to be wrong, and nothing is left counted; what is printed
-is a script that comes to the same when `drive` runs it on a new server. Then 24 bugs are explored under 10 seeds each: 18 of
-tests/drive_server.py, and 6 of counts, of a peer that stands before `serve`. A bug is found where a seed says that something is
-wrong; examples/explore/shrink.py then leaves at most 20 lines of the first such script. Two bugs let a server keep a node too
+is a script that comes to the same when `drive` runs it on a new server. Then 41 bugs are explored under 10 seeds each: 18 of
+tests/drive_server.py, and 23 of a peer that stands before `serve`. A bug is found where a seed says that something is
+wrong; examples/explore/shrink.py then leaves at most 20 lines of the first such script. Three bugs let a server keep a node too
 long, which no frame can show: they are explored, and not judged. Ends with `N passed, M failed`, and status 1 where one failed.
 
     explore.py PROGRAM peer SOCK BUG
 
-serves one connection at SOCK with one of the bugs of counts.
+serves one connection at SOCK with one of the bugs of the peer.
 """
+import collections
 import os
 import re
 import socket
@@ -35,20 +36,40 @@ PROGRAM = Path(sys.argv[1] if len(sys.argv) > 1 else TOP / "crates/fuseworld/out
 SECONDS = 120
 HONEST = range(1, 1 + int(sys.argv[2]) if len(sys.argv) == 3 else 21)
 SEEDS, EVENTS, LINES = range(1, 11), 400, 20
-FAULTS = re.compile(r"(frame \d+: (server|kernel|device): |frame \d+: warning: node given again|reply to nothing|second reply|body is not|no reply|node \d+ (under|given)|the root given"
+FAULTS = re.compile(r"(frame \d+: (server|kernel|device): |frame \d+: warning: (node given again|offset|listing)|reply to nothing|second reply|body is not|no reply|node \d+ (under|given)|the root given"
                     r"|server ended|device failed|differs: )")
-LOOKUP, FORGET, MKDIR, RENAME, LINK, CREATE, BATCH_FORGET, READDIRPLUS = 1, 2, 9, 12, 13, 35, 42, 44
-HEAD, ENTRY = 40, 128
+LOOKUP, FORGET, GETATTR, MKDIR, RENAME, LINK, READ, WRITE, READDIR, CREATE, INTERRUPT, BATCH_FORGET, READDIRPLUS = 1, 2, 3, 9, 12, 13, 15, 16, 28, 35, 36, 42, 44
+HEAD, REPLY, ENTRY = 40, 16, 128
+# Where the attributes of an entry have the inode number and the mode, behind the head of the reply.
+ENTRY_INO, ENTRY_MODE = REPLY + 40, REPLY + 40 + 60
+# Of a peer that stands before an honest server.
 BUGS = [
     "a forget drops its node, whatever its count",
     "a forget is counted double",
     "a lookup is not counted",
+    "a READDIRPLUS is not counted",
     "a nodeid is given again under its generation",
+    "a FORGET is answered",
+    "len is too long",
+    "len is too short",
+    "attributes have a tail",
+    "a record is not padded",
+    "each offset is 0",
+    "each offset is one too far",
+    "MKDIR gives node 0",
+    "a kind changes",
+    "an inode number changes",
+    "a file handle is stale behind RENAME",
+    "a READ has too many bytes",
+    "a WRITE is halved",
+    "the number of links stays 1",
+    "a reply is lost",
     "a lookup is counted double",
     "a forget is lost",
+    "a forget is of one lookup",
 ]
 # The server keeps a node too long, and no frame is another one.
-UNSEEN = BUGS[4:]
+UNSEEN = BUGS[-3:]
 
 
 def frames(stream):
@@ -76,7 +97,10 @@ class Peer:
 
     def __init__(self, bug, kernel, server):
         self.bug, self.kernel, self.server = bug, kernel, server
-        self.opcodes, self.counts, self.lock = {}, {}, threading.Lock()
+        self.requests, self.counts, self.lock = {}, {}, threading.Lock()
+        self.replied = threading.Condition(self.lock)
+        # How many replies of each opcode came, and the file handles that are stale.
+        self.replies, self.stale, self.opened = collections.Counter(), set(), set()
         # A nodeid of the kernel and the server's, both ways; and those that may be given again.
         self.to_server, self.to_kernel, self.free = {1: 1}, {1: 1}, []
 
@@ -95,12 +119,20 @@ class Peer:
             return [(node, count), (node, count)]
         if self.bug == "a forget is lost":
             return []
+        if self.bug == "a forget is of one lookup":
+            count = 1
         return [(self.to_server.get(node, node), count)]
 
     def request(self, frame):
         """The frames that the server is sent for one of the kernel."""
         opcode, unique, node = struct.unpack_from("<IQQ", frame, 4)
-        self.opcodes[unique] = opcode
+        if opcode in (FORGET, BATCH_FORGET):
+            # What came before is done before.
+            self.replied.wait_for(lambda: not self.requests, timeout=1)
+            if self.bug == "a FORGET is answered":
+                self.send(self.kernel, [struct.pack("<IiQ", REPLY, 0, unique)])
+        elif opcode != INTERRUPT:
+            self.requests[unique] = frame
         if opcode == FORGET:
             pairs = [(node, struct.unpack_from("<Q", frame, HEAD)[0])]
         elif opcode == BATCH_FORGET:
@@ -128,9 +160,12 @@ class Peer:
         return self.to_kernel[node]
 
     def reply(self, frame):
-        """The frame that the kernel is sent, and those that the server is."""
+        """The frames that the kernel is sent, and those that the server is."""
         frame, more = bytearray(frame), []
-        opcode = self.opcodes.get(struct.unpack_from("<Q", frame, 8)[0])
+        error, unique = struct.unpack_from("<iQ", frame, 4)
+        request = self.requests.pop(unique, bytes(HEAD))
+        opcode = struct.unpack_from("<I", request, 4)[0]
+        self.replied.notify_all()
         for place in entries(opcode, frame):
             node = struct.unpack_from("<Q", frame, place)[0]
             name = frame[place + ENTRY + 24:place + ENTRY + 26] if opcode == READDIRPLUS else b""
@@ -140,9 +175,71 @@ class Peer:
             self.counts[kernel] = self.counts.get(kernel, 0) + 1
             if self.bug == "a nodeid is given again under its generation":
                 struct.pack_into("<QQ", frame, place, kernel, 0)
-            if self.bug == "a lookup is not counted" and opcode == LOOKUP:
+            if (self.bug, opcode) in (("a lookup is not counted", LOOKUP), ("a READDIRPLUS is not counted", READDIRPLUS)):
                 more.append(forget_frame(0, node, 1))
-        return bytes(frame), more
+        if error == 0:
+            self.replies[opcode] += 1
+            return self.altered(opcode, request, frame), more
+        return [bytes(frame)], more
+
+    def altered(self, opcode, request, frame):
+        """The frames in the place of a reply without an error, by the bugs of replies."""
+        bug, again = self.bug, self.replies[opcode] % 3 == 0
+        if bug == "attributes have a tail" and opcode == GETATTR and again:
+            frame += bytes(8)
+        elif bug == "a READ has too many bytes" and opcode == READ:
+            frame += bytes(8)
+        elif bug == "a WRITE is halved" and opcode == WRITE:
+            struct.pack_into("<I", frame, REPLY, struct.unpack_from("<I", frame, REPLY)[0] // 2)
+        elif bug == "MKDIR gives node 0" and opcode == MKDIR and again:
+            struct.pack_into("<Q", frame, REPLY, 0)
+        elif bug == "a reply is lost" and opcode == LOOKUP and self.replies[opcode] > 20 and again:
+            return []
+        elif bug == "each offset is 0" and opcode == READDIR:
+            self.each_offset(frame, lambda offset: 0)
+        elif bug == "each offset is one too far" and opcode == READDIR:
+            self.each_offset(frame, lambda offset: offset + 1)
+        elif bug == "a record is not padded" and opcode == READDIR and len(frame) > REPLY + 24:
+            length = struct.unpack_from("<I", frame, REPLY + 16)[0]
+            del frame[REPLY + 24 + length:REPLY + (24 + length + 7) // 8 * 8]
+        elif bug == "a file handle is stale behind RENAME" and opcode == RENAME:
+            self.stale |= self.opened
+        elif bug == "a kind changes" and opcode == LOOKUP and again:
+            mode = struct.unpack_from("<I", frame, ENTRY_MODE)[0]
+            struct.pack_into("<I", frame, ENTRY_MODE, 0o100644 if mode & 0o40000 else 0o40755)
+        elif bug == "an inode number changes" and opcode == LOOKUP and again:
+            struct.pack_into("<Q", frame, ENTRY_INO, 1000 + self.replies[opcode])
+        self.links_stay(opcode, frame)
+        self.note_handle(opcode, request, frame)
+        return [self.with_length(frame)]
+
+    def each_offset(self, frame, of):
+        at = REPLY
+        while at + 24 <= len(frame):
+            struct.pack_into("<Q", frame, at + 8, of(struct.unpack_from("<Q", frame, at + 8)[0]))
+            at += (24 + struct.unpack_from("<I", frame, at + 16)[0] + 7) // 8 * 8
+
+    def links_stay(self, opcode, frame):
+        if self.bug != "the number of links stays 1":
+            return
+        places = [place + 40 for place in entries(opcode, frame)] + ([REPLY + 16] if opcode == GETATTR else [])
+        for place in places:
+            struct.pack_into("<I", frame, place + 64, 1)
+
+    def note_handle(self, opcode, request, frame):
+        """Which file handles are open; one that is stale gives EBADF."""
+        if self.bug != "a file handle is stale behind RENAME":
+            return
+        if opcode == CREATE:
+            self.opened.add(struct.unpack_from("<Q", frame, REPLY + ENTRY)[0])
+        if opcode in (READ, WRITE) and struct.unpack_from("<Q", request, HEAD)[0] in self.stale:
+            frame[4:8] = struct.pack("<i", -9)
+            del frame[REPLY:]
+
+    def with_length(self, frame):
+        wrong = {"len is too long": 8, "len is too short": -8}.get(self.bug, 0) if self.replies[GETATTR] % 5 == 4 else 0
+        struct.pack_into("<I", frame, 0, len(frame) + wrong)
+        return bytes(frame)
 
     def run(self):
         def requests():
@@ -159,7 +256,7 @@ class Peer:
                 with self.lock:
                     said, more = self.reply(frame)
                     self.send(self.server, more)
-                    self.send(self.kernel, [said])
+                    self.send(self.kernel, said)
         self.kernel.close()
         thread.join(timeout=SECONDS)
 
@@ -273,7 +370,7 @@ def run_bug(folder, bug):
 
 
 def serve_peer(path, bug):
-    """Serves one connection with a bug of counts, before a `fuseworld serve` of its own."""
+    """Serves one connection with a bug of the peer, before a `fuseworld serve` of its own."""
     with tempfile.TemporaryDirectory() as folder, Started(folder, SERVE) as served:
         listener, behind = socket.socket(socket.AF_UNIX), socket.socket(socket.AF_UNIX)
         behind.connect(served)

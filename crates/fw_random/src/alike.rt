@@ -11,6 +11,12 @@ const EISDIR: &[u8] = b"21";
 
 const ENOTEMPTY: &[u8] = b"39";
 
+/// What the names begin with under which libfuse keeps files that were removed while they were open.
+const HIDDEN: &[u8] = b".fuse_hidden";
+
+/// The kind in a listing that is neither a regular file nor a directory.
+const UNKNOWN: &[u8] = b"other";
+
 /// The name in a word `NAME:OFF:KIND`, and its kind.
 fn name_and_kind(word: &[u8]) -> (&[u8], &[u8]) {
     let (name, rest) = split_at(word, b':');
@@ -18,10 +24,16 @@ fn name_and_kind(word: &[u8]) -> (&[u8], &[u8]) {
     (name, kind)
 }
 
-/// Whether a word of a listing is that of the directory itself or of the one above, which not each server lists.
-fn is_dots(word: &[u8]) -> bool {
+/// Whether a word of a listing is of no file that a call made: of the directory itself or the one above, which not each
+/// server lists, or of one that libfuse keeps, as it was removed while it was open.
+fn is_own(word: &[u8]) -> bool {
     let (name, _) = name_and_kind(word);
-    matches!(name, b"." | b"..")
+    matches!(name, b"." | b"..") || name.strip_prefix(HIDDEN).is_some()
+}
+
+/// Whether two kinds in listings may be one: a server need not say it (DT_UNKNOWN of readdir(3)).
+fn may_be_same(one: &[u8], other: &[u8]) -> bool {
+    one == other || one == UNKNOWN || other == UNKNOWN
 }
 
 /// The next name of a listing with its kind, and what stands behind it.
@@ -32,7 +44,7 @@ pub(crate) fn next_name(words: &[u8]) -> Option<((&[u8], &[u8]), &[u8])> {
             return None;
         }
         let (word, more) = split_word(rest);
-        if !is_dots(word) {
+        if !is_own(word) {
             return Some((name_and_kind(word), more));
         }
         rest = more;
@@ -40,13 +52,13 @@ pub(crate) fn next_name(words: &[u8]) -> Option<((&[u8], &[u8]), &[u8])> {
     None
 }
 
-/// Whether a listing has a name with its kind.
+/// Whether a listing has a name with its kind, as far as that is said.
 fn lists(words: &[u8], name: &[u8], kind: &[u8]) -> bool {
     let mut rest = words;
     for _word in 0..words.len() {
         match next_name(rest) {
             Some((listed, more)) => {
-                if listed.0 == name && listed.1 == kind {
+                if listed.0 == name && may_be_same(listed.1, kind) {
                     return true;
                 }
                 rest = more;
@@ -96,10 +108,51 @@ fn have_same_names(one: &[u8], other: &[u8]) -> bool {
     count_names(one) == count_names(other) && is_within(one, other)
 }
 
-/// Whether the answers have the same kind, and the same size where it is no directory's.
+/// Whether the answers have the same kind, and where it is no directory's the same size and number of links.
 fn have_same_attributes(one: &[u8], other: &[u8]) -> bool {
     let kind = word_at(one, 1);
-    kind == word_at(other, 1) && (kind == b"dir".as_slice() || word_at(one, 3) == word_at(other, 3))
+    kind == word_at(other, 1)
+        && (kind == b"dir".as_slice()
+            || (word_at(one, 3) == word_at(other, 3) && word_at(one, 4) == word_at(other, 4)))
+}
+
+/// What stands in a listing behind the record with this offset, if it has that.
+fn behind_offset<'a>(words: &'a [u8], wanted: &[u8]) -> Option<&'a [u8]> {
+    let mut rest = words;
+    for _word in 0..words.len() {
+        if rest.is_empty() {
+            return None;
+        }
+        let (word, more) = split_word(rest);
+        let (_name, end) = split_at(word, b':');
+        let (offset, _kind) = split_at(end, b':');
+        if offset == wanted {
+            return Some(more);
+        }
+        rest = more;
+    }
+    None
+}
+
+/// Whether a listing from an offset has the names, in their order, that the one before has behind that offset.
+pub(crate) fn goes_on(listed: &[u8], offset: &[u8], answer: &[u8]) -> bool {
+    let Some(mut wanted) = behind_offset(listed, offset) else {
+        return true;
+    };
+    let mut rest = words_behind(answer, 1);
+    for _word in 0..=listed.len() {
+        if wanted.is_empty() || rest.is_empty() {
+            break;
+        }
+        let (one, more_wanted) = split_word(wanted);
+        let (other, more) = split_word(rest);
+        if name_and_kind(one).0 != name_and_kind(other).0 {
+            return false;
+        }
+        wanted = more_wanted;
+        rest = more;
+    }
+    is_done(answer) && wanted.is_empty() && rest.is_empty()
 }
 
 /// Whether an answer is no error.
@@ -107,8 +160,8 @@ pub(crate) fn is_done(answer: &[u8]) -> bool {
     word_at(answer, 0) == b"0".as_slice()
 }
 
-/// Whether two answers to the call of a line say the same. Inode numbers, offsets, numbers of links, the sizes of
-/// directories and the order of names are each server's own.
+/// Whether two answers to the call of a line say the same. Inode numbers, offsets, the sizes and links of directories, and
+/// the order of names are each server's own.
 pub(crate) fn are_alike(line: &[u8], one: &[u8], other: &[u8]) -> bool {
     if !is_done(one) || !is_done(other) {
         return one == other;

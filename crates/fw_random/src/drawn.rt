@@ -25,6 +25,8 @@ const LONG: &[u8] = b"tick 90000000";
 enum Part {
     /// The mount, INIT and its reply.
     Mount,
+    /// What is there is looked up, and taken over.
+    Adopt,
     /// What is chosen.
     Draw,
     /// Every reply is taken, and files are closed.
@@ -129,6 +131,15 @@ impl<A: Allocator + Copy> RandomLines<A> {
         most: u64,
         line: &mut Vec<u8, B>,
     ) -> Result<bool, NoLine> {
+        if standing.is_forgetting && self.rounds.known.is_releasing {
+            // No node is forgotten whose RELEASEDIR is under way.
+            if !self.is_quiet(standing) {
+                return Ok(false);
+            }
+            self.rounds.known.is_releasing = false;
+            put(line, b"call stat /")?;
+            return Ok(true);
+        }
         if standing.is_forgetting {
             put(line, b"read f ")?;
             put_number(line, self.rounds.chance.below(most).saturating_add(1))?;
@@ -371,10 +382,10 @@ impl<A: Allocator + Copy> RandomLines<A> {
             }
             Part::Draw | Part::End => Ok(false),
             Part::Drain => self.put_drain(standing, line),
-            Part::Look => self.put_look(standing, line),
+            Part::Adopt | Part::Look => self.put_look(standing, line),
             Part::Drop => self.put_next_drop(line),
             Part::Evict => {
-                if self.put_next_evict(line)? {
+                if self.put_next_evict(line)? || self.put_frame(standing, line)? {
                     Ok(true)
                 } else {
                     self.put_forget(standing, 1, line)
@@ -386,7 +397,8 @@ impl<A: Allocator + Copy> RandomLines<A> {
     /// The part behind this one: all is looked up once it was forgotten.
     fn next_part(&mut self) -> Part {
         match self.part {
-            Part::Mount => Part::Draw,
+            Part::Mount => Part::Adopt,
+            Part::Adopt => Part::Draw,
             Part::Draw => Part::Drain,
             Part::Drain => Part::Look,
             Part::Look => Part::Drop,
@@ -411,6 +423,12 @@ impl<A: Allocator + Copy> RandomLines<A> {
         if !rounds.known.group.is_over() {
             return Ok(());
         }
+        if self.part == Part::Adopt {
+            rounds.known.group.adopt(&mut rounds.beside)?;
+            rounds.known.group.follow(&mut rounds.plan)?;
+            rounds.known.group.clear();
+            return Ok(());
+        }
         let wrong = rounds.known.group.judge(&mut rounds.beside, out)?;
         self.differences = self.differences.saturating_add(wrong);
         rounds.known.group.follow(&mut rounds.plan)?;
@@ -428,7 +446,7 @@ impl<A: Allocator + Copy> RandomLines<A> {
         line: &mut Vec<u8, B>,
     ) -> Result<bool, NoLine> {
         line.clear();
-        for _part in 0..13 {
+        for _part in 0..14 {
             if self.put_of_part(standing, line)? {
                 self.drawn = self.drawn.saturating_add(1);
                 return Ok(true);

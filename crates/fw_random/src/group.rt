@@ -1,9 +1,12 @@
 //! The calls that are under way at once, and what they are answered.
 
-use crate::alike::{are_alike, is_interrupted, is_made_otherwise, is_refused_as_above};
+use crate::adopted::adopt;
+use crate::alike::{
+    are_alike, goes_on, is_done, is_interrupted, is_made_otherwise, is_refused_as_above,
+};
 use crate::beside::Beside;
 use crate::plan::Plan;
-use crate::text::{put, put_number, word_at};
+use crate::text::{put, put_number, word_at, words_behind};
 use fw_drive::NoLine;
 use std::alloc::Allocator;
 use std::io::Write;
@@ -29,11 +32,35 @@ pub(crate) struct Group<A: Allocator> {
     answered: usize,
     /// Whether one was signalled.
     pub(crate) is_signalled: bool,
+    /// Whether a file was changed so far.
+    has_changed: bool,
+    /// The names of the last whole listing.
+    listed: Vec<u8, A>,
 }
 
 /// Whether a call changes no file, and opens and closes none.
 pub(crate) fn is_reader(line: &[u8]) -> bool {
     matches!(word_at(line, 1), b"stat" | b"list" | b"listplus" | b"read")
+}
+
+/// Whether a call changes the files that a server has.
+fn is_change(line: &[u8]) -> bool {
+    !is_reader(line) && !matches!(word_at(line, 1), b"open" | b"close")
+}
+
+/// Whether a call lists a directory from its beginning.
+fn is_first_page(line: &[u8]) -> bool {
+    word_at(line, 1) == b"list".as_slice() && word_at(line, 3) == b"0".as_slice()
+}
+
+/// Whether a call lists a directory from an offset on.
+fn is_later_page(line: &[u8]) -> bool {
+    word_at(line, 1) == b"list".as_slice() && word_at(line, 3) != b"0".as_slice()
+}
+
+/// Whether a call opens a file for reading alone.
+fn is_open_to_read(line: &[u8]) -> bool {
+    word_at(line, 1) == b"open".as_slice() && word_at(line, 3) == b"r".as_slice()
 }
 
 /// A text of its own.
@@ -74,6 +101,8 @@ impl<A: Allocator + Copy> Group<A> {
             calls: Vec::new(alloc),
             answered: 0,
             is_signalled: false,
+            has_changed: false,
+            listed: Vec::new(alloc),
         }
     }
 
@@ -97,6 +126,10 @@ impl<A: Allocator + Copy> Group<A> {
             if called.number == number {
                 put(&mut called.answer, words)?;
                 self.answered = self.answered.saturating_add(1);
+                if is_first_page(called.line.as_slice()) && is_done(words) {
+                    self.listed.clear();
+                    put(&mut self.listed, words_behind(words, 1))?;
+                }
                 break;
             }
         }
@@ -172,9 +205,17 @@ impl<A: Allocator + Copy> Group<A> {
             if called.is_right || !is_reader(line) {
                 continue;
             }
-            let here = beside.make(called.number, line)?;
-            called.is_right = are_alike(line, answer, here.as_slice())
-                || (self.is_signalled && is_interrupted(answer));
+            let (is_right, here) = if is_later_page(line) {
+                let listed = self.listed.as_slice();
+                (
+                    goes_on(listed, word_at(line, 3), answer),
+                    copied(self.alloc, listed)?,
+                )
+            } else {
+                let here = beside.make(called.number, line)?;
+                (are_alike(line, answer, here.as_slice()), here)
+            };
+            called.is_right = is_right || (self.is_signalled && is_interrupted(answer));
             if says && !called.is_right {
                 wrong = wrong.saturating_add(1);
                 print_difference(self.alloc, called.number, answer, here.as_slice(), out)?;
@@ -183,14 +224,30 @@ impl<A: Allocator + Copy> Group<A> {
         Ok(wrong)
     }
 
+    /// Whether an answer is that of a server which has changed nothing so far: it may refuse each change.
+    fn may_refuse(&self, line: &[u8], answer: &[u8]) -> bool {
+        !self.has_changed && !is_done(answer) && !is_open_to_read(line)
+    }
+
+    /// Notes whether a file was changed.
+    fn note_change(&mut self) {
+        let made = self.calls.as_slice().iter().any(|called| {
+            is_change(called.line.as_slice()) && is_done(called.answer.as_slice())
+        });
+        self.has_changed |= made;
+    }
+
     /// Makes the calls beside that change files, and prints each answer that differs. Gives how many those are. What a signal
-    /// ended changed nothing.
+    /// ended changed nothing, and nor did what was refused.
     fn judge_changes<W: Write>(&self, beside: &mut Beside<A>, out: &mut W) -> Result<u64, NoLine> {
         let mut wrong: u64 = 0;
         for called in self.calls.as_slice() {
             let line = called.line.as_slice();
             let answer = called.answer.as_slice();
-            if is_reader(line) || (self.is_signalled && is_interrupted(answer)) {
+            if is_reader(line)
+                || (self.is_signalled && is_interrupted(answer))
+                || self.may_refuse(line, answer)
+            {
                 continue;
             }
             let here = beside.make(called.number, line)?;
@@ -209,6 +266,20 @@ impl<A: Allocator + Copy> Group<A> {
         Ok(wrong)
     }
 
+    /// Takes over into the world beside what the answers show to be there.
+    pub(crate) fn adopt(&self, beside: &mut Beside<A>) -> Result<(), NoLine> {
+        for called in self.calls.as_slice() {
+            adopt(
+                self.alloc,
+                beside,
+                called.number,
+                called.line.as_slice(),
+                called.answer.as_slice(),
+            )?;
+        }
+        Ok(())
+    }
+
     /// Compares the answers with those of the world beside. Prints each that is in no order of the calls that one, and gives
     /// how many those are.
     pub(crate) fn judge<W: Write>(
@@ -220,6 +291,7 @@ impl<A: Allocator + Copy> Group<A> {
             return self.judge_readers(beside, true, out);
         }
         self.judge_readers(beside, false, out)?;
+        self.note_change();
         let wrong = self.judge_changes(beside, out)?;
         let more = self.judge_readers(beside, true, out)?;
         Ok(wrong.saturating_add(more))

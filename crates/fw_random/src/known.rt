@@ -18,6 +18,10 @@ pub(crate) struct Known<A: Allocator> {
     pub(crate) unreadable: Vec<u64, A>,
     /// The requests whose replies are to come.
     pub(crate) sent: Vec<u64, A>,
+    /// Those of them that list a directory.
+    listings: Vec<u64, A>,
+    /// Whether RELEASEDIR was sent behind the last reply that was taken. Its own comes before that of the next request.
+    pub(crate) is_releasing: bool,
     /// The nodes that the kernel counted when they were shown last.
     pub(crate) nodes: Vec<u64, A>,
     /// The calls since nothing was under way.
@@ -57,6 +61,8 @@ impl<A: Allocator + Copy> Known<A> {
             unwritable: Vec::new(alloc),
             unreadable: Vec::new(alloc),
             sent: Vec::new(alloc),
+            listings: Vec::new(alloc),
+            is_releasing: false,
             nodes: Vec::new(alloc),
             group: Group::new(alloc),
             line: Vec::new(alloc),
@@ -102,10 +108,19 @@ impl<A: Allocator + Copy> Known<A> {
     fn sent(&mut self, unique: u64, name: &[u8]) -> Result<(), NoLine> {
         match name {
             b"FORGET" | b"BATCH_FORGET" | b"INTERRUPT" => return Ok(()),
-            b"READDIR" | b"READDIRPLUS" => self.listing = unique,
+            b"READDIR" | b"READDIRPLUS" => {
+                self.listing = unique;
+                keep(&mut self.listings, unique)?;
+            }
             _ => {}
         }
         keep(&mut self.sent, unique)
+    }
+
+    /// A reply was taken.
+    fn written(&mut self, unique: u64) {
+        let _waited = take_out(&mut self.sent, unique);
+        self.is_releasing = take_out(&mut self.listings, unique);
     }
 
     /// The nodes were shown.
@@ -133,7 +148,7 @@ impl<A: Allocator + Copy> Known<A> {
             b"answer" => self.answered(number_of(first), words_behind(line, 2)),
             b"read" => self.sent(number_of(first), second),
             b"written" => {
-                let _waited = take_out(&mut self.sent, number_of(first));
+                self.written(number_of(first));
                 Ok(())
             }
             b"kernel" => self.shown(rest),

@@ -1,6 +1,7 @@
 //! Lines of a script that are chosen one after another, from what the kernel can do just then.
 #![tactic(auto)]
 
+mod adopted;
 mod alike;
 mod beside;
 mod calls;

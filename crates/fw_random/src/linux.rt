@@ -67,8 +67,12 @@ pub(crate) fn is_sent<A: Allocator + Copy>(
     line: &[u8],
 ) -> Result<bool, NoLine> {
     let (call, one, other) = (word_at(line, 1), word_at(line, 2), word_at(line, 3));
-    if matches!(call, b"read" | b"write" | b"close") {
-        return Ok(true);
+    match call {
+        // Of no bytes Linux sends none.
+        b"read" => return Ok(word_at(line, 4) != b"0".as_slice()),
+        b"write" => return Ok(word_at(line, 4) != b"-".as_slice()),
+        b"close" => return Ok(true),
+        _ => {}
     }
     let first = look_up(alloc, beside, one)?;
     match call {

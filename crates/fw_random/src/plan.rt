@@ -2,7 +2,7 @@
 
 use crate::alike::{is_done, next_name};
 use crate::group::copied;
-use crate::text::{put, put_number, word_at, words_behind};
+use crate::text::{put, put_number, split_at, split_word, word_at, words_behind};
 use fw_drive::NoLine;
 use std::alloc::Allocator;
 
@@ -129,20 +129,58 @@ impl<A: Allocator + Copy> Plan<A> {
             )?;
             put(&mut path, b"/")?;
             put(&mut path, listed.0)?;
-            if listed.1 == b"dir".as_slice() {
-                self.put_with(b"call list ", path.as_slice(), b" 0")?;
-            } else {
-                self.put_with(b"call open ", path.as_slice(), b" r")?;
-            }
             self.put_with(b"call stat ", path.as_slice(), b"")?;
         }
         Ok(())
     }
 
+    /// The directory of a listing is listed once more, from the offset of one of its records.
+    fn list_on(&mut self, directory: &[u8], names: &[u8]) -> Result<(), NoLine> {
+        let place = self.look % 5;
+        let mut rest = names;
+        for _name in 0..place {
+            let (_word, more) = split_word(rest);
+            if more.is_empty() {
+                break;
+            }
+            rest = more;
+        }
+        let (word, _) = split_word(rest);
+        let (_name, end) = split_at(word, b':');
+        let (offset, _kind) = split_at(end, b':');
+        if offset.is_empty() || offset == b"0".as_slice() {
+            return Ok(());
+        }
+        let mut line = copied(self.alloc, b"call list ")?;
+        put(&mut line, directory)?;
+        put(&mut line, b" ")?;
+        put(&mut line, offset)?;
+        keep_text(&mut self.todo, line)
+    }
+
+    /// What a look does with a file of this kind. Behind a listing the root is looked at: the listing's reply comes behind
+    /// that of RELEASEDIR, for which nothing waits.
+    fn look_into(&mut self, path: &[u8], kind: &[u8]) -> Result<(), NoLine> {
+        match kind {
+            b"dir" if path == b"/".as_slice() => Ok(()),
+            b"dir" => {
+                self.put_first(b"call stat /")?;
+                self.put_with(b"call list ", path, b" 0")
+            }
+            b"file" => self.put_with(b"call open ", path, b" r"),
+            _ => Ok(()),
+        }
+    }
+
     /// What a look does behind an answer.
     fn look_on(&mut self, number: u64, line: &[u8], answer: &[u8]) -> Result<(), NoLine> {
         match word_at(line, 1) {
-            b"list" => self.look_at(word_at(line, 2), words_behind(answer, 1)),
+            b"stat" => self.look_into(word_at(line, 2), word_at(answer, 1)),
+            b"list" if word_at(line, 3) == b"0".as_slice() => {
+                let names = words_behind(answer, 1);
+                self.look_at(word_at(line, 2), names)?;
+                self.list_on(word_at(line, 2), names)
+            }
             b"open" => {
                 self.put_numbered(b"call close ", number, b"")?;
                 self.put_numbered(b"call read ", number, b" 65536 4096")?;
