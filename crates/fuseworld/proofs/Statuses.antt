@@ -88,35 +88,21 @@ captured_three true status is = (2, omega arith, sym is)
 
 -- ---- `drive`
 
-abbrev judged_drive : List ℕ
-judged_drive = 0 ∷ 1 ∷ 3 ∷ 4 ∷ 5 ∷ 6 ∷ []
+-- what is judged is among them
+pub driven_with : (status result : ℕ) → Contains drive_statuses status → (result ≡ status) ⊎ ((status ≡ 0) × (result ≡ 6))
+    → Contains drive_statuses result
+driven_with status result h (inl same) = subst (Contains drive_statuses) (sym same) h
+driven_with status result h (inr six) = (5, omega arith, sym six.1)
 
--- what is no fault's
-pub driven : (check : Bool) (status : ℕ) → Contains (0 ∷ 1 ∷ 3 ∷ 4 ∷ 5 ∷ []) status → Contains (drive_statuses check) status
-driven false status h = h
-driven true status h = among (0 ∷ 1 ∷ 3 ∷ 4 ∷ 5 ∷ []) judged_drive status
-    (All-cons (Contains judged_drive) 0 (1 ∷ 3 ∷ 4 ∷ 5 ∷ []) (0, omega arith, refl)
-    (All-cons (Contains judged_drive) 1 (3 ∷ 4 ∷ 5 ∷ []) (1, omega arith, refl)
-    (All-cons (Contains judged_drive) 3 (4 ∷ 5 ∷ []) (2, omega arith, refl)
-    (All-cons (Contains judged_drive) 4 (5 ∷ []) (3, omega arith, refl)
-    (All-cons (Contains judged_drive) 5 [] (4, omega arith, refl) (All-nil (Contains judged_drive)))))))
+-- 3 and 4 are
+pub driven_three : (status : ℕ) → status ≡ 3 → Contains drive_statuses status
+driven_three status is = (2, omega arith, sym is)
+
+pub driven_four : (status : ℕ) → status ≡ 4 → Contains drive_statuses status
+driven_four status is = (3, omega arith, sym is)
+
+pub not_driven : (status : ℕ) → Contains (1 ∷ 3 ∷ []) status → Contains drive_statuses status
+not_driven status h = among (1 ∷ 3 ∷ []) drive_statuses status
+    (All-cons (Contains drive_statuses) 1 (3 ∷ []) (1, omega arith, refl)
+    (All-cons (Contains drive_statuses) 3 [] (2, omega arith, refl) (All-nil (Contains drive_statuses))))
     h
-
-pub driven_with : (check : Bool) (status result : ℕ) → check ≡ true → Contains (0 ∷ 1 ∷ 3 ∷ 4 ∷ 5 ∷ []) status
-    → (result ≡ status) ⊎ ((status ≡ 0) × (result ≡ 6)) → Contains (drive_statuses check) result
-driven_with check status result is h (inl same) = subst (Contains (drive_statuses check)) (sym same) (driven check status h)
-driven_with check status result is h (inr six) =
-    subst (λ (b : Bool). Contains (drive_statuses b) result) (sym is) (5, omega arith, sym six.1)
-
--- 3 and 4 are among them
-pub driven_three : (check : Bool) (status : ℕ) → status ≡ 3 → Contains (drive_statuses check) status
-driven_three check status is = driven check status (2, omega arith, sym is)
-
-pub driven_four : (check : Bool) (status : ℕ) → status ≡ 4 → Contains (drive_statuses check) status
-driven_four check status is = driven check status (3, omega arith, sym is)
-
-pub not_driven : (check : Bool) (status : ℕ) → Contains (1 ∷ 3 ∷ []) status → Contains (drive_statuses check) status
-not_driven check status h = driven check status (among (1 ∷ 3 ∷ []) (0 ∷ 1 ∷ 3 ∷ 4 ∷ 5 ∷ []) status
-    (All-cons (Contains (0 ∷ 1 ∷ 3 ∷ 4 ∷ 5 ∷ [])) 1 (3 ∷ []) (1, omega arith, refl)
-    (All-cons (Contains (0 ∷ 1 ∷ 3 ∷ 4 ∷ 5 ∷ [])) 3 [] (2, omega arith, refl) (All-nil (Contains (0 ∷ 1 ∷ 3 ∷ 4 ∷ 5 ∷ [])))))
-    h)

@@ -66,15 +66,16 @@ serve_app minors = with_rule (with_rule (with_rule (with_rule (with_rule (with_r
 
 abbrev pub drive_app : App
 drive_app = with_rule (with_rule (with_rule (with_rule (with_rule (with_rule (with_rule (with_rule (with_rule (with_rule
-    (with_rule (with_rule (with_rule (with_rule (new_app (codes "drive"))
+    (with_rule (with_rule (with_rule (with_rule (with_rule (new_app (codes "drive"))
     (flag (codes "calls")))
     (flag (codes "beside")))
     (flag (codes "no-opendir")))
     (flag (codes "trace")))
-    (flag (codes "check")))
-    (option_or_none (codes "capture")))
     (number (codes "wait") 1 longest (codes "10000")))
     (option (codes "offer") (codes "0")))
+    (flag (codes "check")))
+    (flag (codes "report-only")))
+    (option_or_none (codes "capture")))
     (flag (codes "random")))
     (flag (codes "any")))
     (number (codes "seed") 0 last_node (codes "1")))

@@ -61,7 +61,7 @@ EndsWith (task.Socket file path) = Contains (0 ∷ 1 ∷ 3 ∷ 4 ∷ 5 ∷ [])
 EndsWith (task.Draw file around) = Contains (0 ∷ 1 ∷ 3 ∷ 5 ∷ [])
 EndsWith (task.OnFrame t) = Contains (frame_statuses t)
 EndsWith (task.Serve t) = Contains (serve_statuses t.capture t.is_checked)
-EndsWith (task.Drive t) = λ status. (IsOffer t.offer.now → Contains (drive_statuses t.is_checked) status)
+EndsWith (task.Drive t) = λ status. (IsOffer t.offer.now → Contains drive_statuses status)
     × (¬ IsOffer t.offer.now → status ≡ 2)
 EndsWith (task.Side t) = Contains (0 ∷ 1 ∷ 3 ∷ 5 ∷ [])
 

@@ -120,6 +120,7 @@ pub record AsksDrive (rows : List Row) (t : DriveTask) : Type 0 where
   pub any : t.is_any ≡ is_set (codes "any") rows
   pub seed : t.seed ≡ number_of (codes "seed") 1 rows
   pub events : t.events ≡ number_of (codes "events") 400 rows
+  pub reports : t.is_report_only ≡ is_set (codes "report-only") rows
 
 -- how a side prints
 abbrev pub print_of : List Row → Print

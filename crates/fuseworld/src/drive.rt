@@ -3,7 +3,7 @@
 ghost use Rattle.std.specs.Prelude.{◌↔◌, ◌∷◌, [], Contains, IsTrue, ◌≡◌, IfErr, IfOk, codes, false, unwrap_or};
 ghost use Rattle.clap.specs.Words.{app_of, first_of, found_of, rows_of, with_rule, new_rule};
 ghost use Rattle.clap.specs.declared.builder.command.Command.TheViews.{out-Command as fields_of};
-ghost use Rattle.fuseworld.specs.Arguments.{IsArgument, flag, needed, number, option};
+ghost use Rattle.fuseworld.specs.Arguments.{IsArgument, flag, needed, number, option, option_or_none};
 ghost use Rattle.fuseworld.specs.Commands.{IsCommand, drive_app, last_node};
 ghost use Rattle.fuseworld.specs.ServeStatuses.{drive_statuses};
 ghost use Rattle.fuseworld.specs.Values.{IsOffer, is_set};
@@ -61,6 +61,8 @@ pub struct DriveTask<'a> {
     seed: u64,
     /// How many lines are chosen.
     events: u64,
+    /// Whether the exit status is 0 also where something was found.
+    is_report_only: bool,
 }
 
 /// The option for further flags of INIT.
@@ -84,6 +86,25 @@ fn number_argument<'a>(
         0,
         u64::MAX,
     ))
+}
+
+/// The arguments of what is found, and where it goes.
+fn with_findings<'a>(alloc: Global, command: Command<'a>) -> Result<Command<'a>, AllocError>
+    ensures { IfOk result (λ all. (fields_of command.entry).has_globals ≡ false
+        → IsCommand (with_rule (with_rule (with_rule (app_of command.entry) (flag (codes "check")))
+        (flag (codes "report-only"))) (option_or_none (codes "capture"))) all) }
+{
+    let check = flag(
+        alloc,
+        "check",
+        "Print each fault in what goes over the device, among the lines",
+    );
+    let reports = flag(
+        alloc,
+        "report-only",
+        "Exit with status 0 also where the server was wrong",
+    );
+    command.arg(check)?.arg(reports)?.arg(file_argument(alloc))
 }
 
 /// The arguments of lines that are chosen.
@@ -167,15 +188,9 @@ pub fn drive_command<'a>(alloc: Global) -> Result<Command<'a>, AllocError>
             "trace",
             "Print each frame in words, on standard error",
         ))?
-        .arg(flag(
-            alloc,
-            "check",
-            "Print each fault in what goes over the device, among the lines",
-        ))?
-        .arg(file_argument(alloc))?
         .arg(wait)?
         .arg(offer_argument(alloc))?;
-    with_places(alloc, with_draws(alloc, command)?)
+    with_places(alloc, with_draws(alloc, with_findings(alloc, command)?)?)
 }
 
 /// What the script has in its lines.
@@ -218,6 +233,7 @@ pub fn drive_task<'a>(matches: &ArgMatches<'a>) -> DriveTask<'a>
         is_any: is_set(matches, "any"),
         seed: number(matches, "seed", 1),
         events: number(matches, "events", 400),
+        is_report_only: is_set(matches, "report-only"),
     }
 }
 
@@ -273,7 +289,7 @@ fn drive_input<D: Device, W: Write, F: Write>(
     out: &mut W,
     faults: &mut F,
 ) -> u8
-    ensures { Contains (0 ∷ 1 ∷ 3 ∷ 4 ∷ 5 ∷ []) result }
+    ensures { Contains drive_statuses result }
 {
     let alloc = rt.alloc();
     let Ok(input) = BufReader::new(alloc, rt.reader()) else {
@@ -294,7 +310,7 @@ fn drive_random<D: Device, W: Write + Drop, F: Write>(
     faults: &mut F,
     differs: &mut bool,
 ) -> u8
-    ensures { Contains (0 ∷ 1 ∷ 3 ∷ 4 ∷ 5 ∷ []) result }
+    ensures { Contains drive_statuses result }
 {
     let alloc = rt.alloc();
     let (seed, events, is_any) = drawn;
@@ -318,7 +334,7 @@ fn drive_device<D: Device, W: Write + Drop>(
     out: W,
     differs: &mut bool,
 ) -> u8
-    ensures { Contains (0 ∷ 1 ∷ 3 ∷ 4 ∷ 5 ∷ []) result }
+    ensures { Contains drive_statuses result }
 {
     let alloc = rt.alloc();
     let mut faults = rt.stderr();
@@ -352,7 +368,7 @@ fn drive_judged<D: Device + Drop, W: Write + Drop, F: Write + Drop>(
     out: W,
     lines: F,
 ) -> u8
-    ensures { Contains (drive_statuses asked.entry.is_checked) result }
+    ensures { Contains drive_statuses result }
 {
     let mut differs = false;
     if !asked.is_checked {
@@ -363,6 +379,9 @@ fn drive_judged<D: Device + Drop, W: Write + Drop, F: Write + Drop>(
         judged.say_several_readers();
     }
     let status = drive_device(rt, task, script, &mut judged, out, &mut differs);
+    if asked.is_report_only {
+        return status;
+    }
     status_beside(status, judged.faults(), differs)
 }
 
@@ -376,7 +395,7 @@ fn drive_over<D: Device + Drop, W: Write + Drop, F: Write + Drop>(
     out: W,
     lines: F,
 ) -> u8
-    ensures { Contains (drive_statuses asked.entry.is_checked) result }
+    ensures { Contains drive_statuses result }
 {
     if !asked.is_traced {
         return drive_judged(rt, asked, task, script, device, out, lines);
@@ -397,7 +416,7 @@ fn drive_captured<D: Device + Drop, W: Write + Drop, F: Write + Drop>(
     out: W,
     lines: F,
 ) -> u8
-    ensures { Contains (drive_statuses asked.entry.is_checked) result }
+    ensures { Contains drive_statuses result }
 {
     let Some(file) = file else {
         return drive_over(rt, asked, task, script, device, out, lines);
@@ -431,7 +450,7 @@ fn drive_said<D: Device + Drop, W: Write + Drop, F: Write + Drop>(
     out: W,
     lines: F,
 ) -> u8
-    ensures { Contains (drive_statuses asked.entry.is_checked) result }
+    ensures { Contains drive_statuses result }
 {
     if asked.is_random {
         let lines = Commented::new(rt.alloc(), lines);
@@ -448,7 +467,7 @@ fn drive_place(
     script: Lines<'_>,
     file: Option<File>,
 ) -> u8
-    ensures { Contains (drive_statuses asked.entry.is_checked) result }
+    ensures { Contains drive_statuses result }
 {
     let Some(path) = socket_of(asked) else {
         let device = PacketDevice::giving_up(rt.reader(), io::writer(rt));
@@ -488,7 +507,7 @@ fn drive_to_file(
     script: Lines<'_>,
     path: &str,
 ) -> u8
-    ensures { Contains (drive_statuses asked.entry.is_checked) result }
+    ensures { Contains drive_statuses result }
 {
     match File::create(rt, path) {
         Ok(file) => drive_place(rt, asked, task, script, Some(file)),
@@ -499,7 +518,7 @@ fn drive_to_file(
 
 /// Drives a server by the lines of a script, with a capture where one is asked for, and gives the exit status.
 fn drive_lines(rt: &HostRuntime, asked: DriveTask<'_>, task: Task<'_>, script: Lines<'_>) -> u8
-    ensures { Contains (drive_statuses asked.entry.is_checked) result }
+    ensures { Contains drive_statuses result }
 {
     match asked.capture {
         Some(path) => drive_to_file(rt, asked, task, script, path),
@@ -509,7 +528,7 @@ fn drive_lines(rt: &HostRuntime, asked: DriveTask<'_>, task: Task<'_>, script: L
 
 /// Drives a server by a script, and gives the exit status. With SOCK the script `-` is standard input, a line at a time.
 fn drive_task_of(rt: &HostRuntime, asked: DriveTask<'_>, task: Task<'_>) -> u8
-    ensures { Contains (drive_statuses asked.entry.is_checked) result }
+    ensures { Contains drive_statuses result }
 {
     if asked.is_random {
         let lines = Lines::Random {
@@ -530,7 +549,7 @@ fn drive_task_of(rt: &HostRuntime, asked: DriveTask<'_>, task: Task<'_>) -> u8
 
 /// Drives a server, and gives the exit status.
 pub fn run_drive_task(rt: &HostRuntime, asked: DriveTask<'_>) -> u8
-    ensures statuses { IsOffer asked.entry.offer.now → Contains (drive_statuses asked.entry.is_checked) result }
+    ensures statuses { IsOffer asked.entry.offer.now → Contains drive_statuses result }
     ensures refused { ¬ IsOffer asked.entry.offer.now → result ≡ 2 }
 {
     if !is_offer(asked.offer.as_bytes()) {
@@ -545,6 +564,7 @@ pub fn run_drive_task(rt: &HostRuntime, asked: DriveTask<'_>) -> u8
             open_flags: OPEN_FLAGS,
             offer: hex_number(asked.offer.as_bytes()) | DONT_MASK,
         },
+        is_report_only: asked.is_report_only,
     };
     drive_task_of(rt, asked, task)
 }

@@ -14,22 +14,21 @@ returns c =
     let beside_is : IsArgument (flag (codes "beside")) c.flag-2.result = search rules in
     let opens_is : IsArgument (flag (codes "no-opendir")) c.flag-3.result = search rules in
     let trace_is : IsArgument (flag (codes "trace")) c.flag-4.result = search rules in
-    let check_is : IsArgument (flag (codes "check")) c.flag-5.result = search rules in
-    let capture_is : IsArgument (option_or_none (codes "capture")) c.file_argument.result = search rules in
     let new_is : IsCommand (new_app (codes "drive")) c.new.result = search rules in
     let about_is = with_about _ _ c.about.result _ c.about.ensures new_is in
     let calls = adds_argument _ _ _ _ _ about_is calls_is c.in_ok-arg.ensures in
     let beside = adds_argument _ _ _ _ _ calls beside_is c.in_ok-arg-2.ensures in
     let opens = adds_argument _ _ _ _ _ beside opens_is c.in_ok-arg-3.ensures in
     let trace = adds_argument _ _ _ _ _ opens trace_is c.in_ok-arg-4.ensures in
-    let check = adds_argument _ _ _ _ _ trace check_is c.in_ok-arg-5.ensures in
-    let capture = adds_argument _ _ _ _ _ check capture_is c.in_ok-arg-6.ensures in
-    let wait = adds_argument _ _ _ _ _ capture wait_is c.in_ok-arg-7.ensures in
+    let wait = adds_argument _ _ _ _ _ trace wait_is c.in_ok-arg-5.ensures in
     let all = adds_argument _ _ _ _ _ wait offer_is c.in_ok-command.ensures in
-    let draws = c.in_ok-with_draws.ensures all.1 in
+    let findings = c.in_ok-with_findings.ensures all.1 in
+    let found = findings.0 ∙ ap (λ (a : App). with_rule (with_rule (with_rule a (flag (codes "check")))
+    (flag (codes "report-only"))) (option_or_none (codes "capture"))) all.0 in
+    let draws = c.in_ok-with_draws.ensures findings.1 in
     let drawn = draws.0 ∙ ap (λ (a : App). with_rule (with_rule (with_rule (with_rule a (flag (codes "random")))
     (flag (codes "any"))) (number (codes "seed") 0 last_node (codes "1")))
-    (number (codes "events") 0 last_node (codes "400"))) all.0 in
+    (number (codes "events") 0 last_node (codes "400"))) found in
     IfOk-weaker c.with_places.result _ _ (λ both h.
     let placed = h draws.1 in
     (placed.0 ∙ ap (λ (a : App). with_rule (with_rule a (needed (codes "FILE"))) (new_rule (codes "SOCK"))) drawn, placed.1)) c.with_places.ensures
