@@ -6,7 +6,7 @@
 
 SCRIPT ?= tests/rows/stat-of-root.script
 
-.PHONY: run try unproved test build mount watch vectors lib install uninstall dist dist-tests bench explore drive-tests watch-tests watch-times wrong-bodies check rows docs fmt
+.PHONY: run try unproved test build mount watch vectors lib install uninstall dist dist-tests bench explore explore-servers drive-tests watch-tests watch-times wrong-bodies check rows docs fmt
 
 run: build
 	@crates/fuseworld/out/fuseworld run "$(SCRIPT)"
@@ -116,6 +116,9 @@ drive-tests: build
 # Random events before `serve`, and before the same behind a peer that has one bug of counts.
 explore: build
 	@python3 tests/explore.py
+
+explore-servers: build
+	@python3 tests/explore_servers.py
 
 # A small server on a watched mount, whose frames examples/watch writes down; one with each of 27 bugs; then servers of
 # others whose packages are there, under load. ARGS has further words for tests/watch_servers.py.

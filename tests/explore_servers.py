@@ -6,7 +6,7 @@
 PROGRAM is the built program, or crates/fuseworld/out/fuseworld; each server is driven under SEEDS seeds, 20 if that is left
 out, each time in a new folder. Prints, for each server, how many lines were run, and each kind of finding with its number and
 the first seed that has it; numbers of nodes, requests and calls are `-` there. With NAMEs only those servers are explored. A
-server whose Debian package is not there is skipped. It judges nothing: docs/EXPLORE.md has what was found.
+server whose Debian package is not there is skipped. It judges nothing: examples/explore/README.md has what was found.
 """
 import collections
 import errno
@@ -68,7 +68,7 @@ def explore(built, server, seed):
     with tempfile.TemporaryDirectory() as name:
         folder = Path(name)
         server.prepare(folder)
-        words = [built / "launcher", "-t", str(WAIT), PROGRAM, "drive", "--random", "--seed", str(seed), "--events", str(EVENTS), "--offer", "20", "-",
+        words = [built / "launcher", "-t", str(WAIT), PROGRAM, "drive", "--random", "--seed", str(seed), "--events", str(EVENTS), "--offer", "30", "-",
                  "--", *server.command(built, folder)]
         try:
             ran = subprocess.run(words, stdin=subprocess.DEVNULL, capture_output=True, timeout=SECONDS)
