@@ -97,7 +97,7 @@ pub after_said : {A : Type 0} (F R : Move A → Type 0) (said : List (Note A)) (
 after_said F R [] moves are = are
 after_said F R (note ∷ said) moves are = after_note note (said_moves said ++ moves) (after_said F R said moves are)
 
--- ---- what is told
+-- ---- whether the server was wrong
 
 pub or_false : (b : Bool) → (b || false) ≡ b
 or_false = laws.or_false
@@ -109,7 +109,7 @@ pub tells_then : {T : Type 0} (r : Result T Stop) (old mid new one two : Bool) �
     → Tells r old new (one || two)
 tells_then = laws.tells_then
 
--- nothing was told
+-- nothing was wrong
 pub tells_nothing : {T : Type 0} (r : Result T Stop) (told : Bool) → Tells r told told false
 tells_nothing (Ok x) told = sym (or_false told)
 tells_nothing (Err s) told = tt

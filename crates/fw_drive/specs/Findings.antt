@@ -30,10 +30,10 @@ end_status is_report_only is_found = cond (is_found && not is_report_only) 6 0
 abbrev pub finding_status : {A : Type 0} → (is_report_only : Bool) → List (Move A) → ℕ
 finding_status is_report_only moves = end_status is_report_only (is_any_move_wrong moves)
 
--- What an output got, and whether it was told that the server was wrong.
+-- What an output got, and whether that says that the server was wrong.
 abbrev pub Told : Type 0
 Told = Option (List ℕ) × Bool
 
--- It was told before, or this says it; where a call failed, that is not known.
+-- That was said before, or is now; where a call failed, it is not known.
 abbrev pub Tells : {T : Type 0} → Result T Stop → (old new is_said : Bool) → Type 0
 Tells result old new is_said = OnOk result (new ≡ (old || is_said))

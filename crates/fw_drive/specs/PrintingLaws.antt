@@ -26,7 +26,7 @@ notes_on [] b = refl
 notes_on (note ∷ a) b =
     ap (λ (l : List ℕ). note_text note ++ l) (notes_on a b) ∙ sym (append_assoc (note_text note) (notes_text a) (notes_text b))
 
--- ---- what is told
+-- ---- whether the server was wrong
 
 pub or_false : (b : Bool) → (b || false) ≡ b
 or_false true = refl

@@ -31,7 +31,7 @@ fn is_own(word: &[u8]) -> bool {
     matches!(name, b"." | b"..") || name.strip_prefix(HIDDEN).is_some()
 }
 
-/// Whether two kinds in listings may be one: a server need not say it (DT_UNKNOWN of readdir(3)).
+/// Whether two kinds in listings may be one: a server need not say it (readdir(3)).
 fn may_be_same(one: &[u8], other: &[u8]) -> bool {
     one == other || one == UNKNOWN || other == UNKNOWN
 }

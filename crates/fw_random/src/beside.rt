@@ -22,8 +22,11 @@ pub(crate) struct Beside<A: Allocator + Copy> {
 }
 
 /// Why there is no line, where an event of the world is refused.
-fn of_refusal(_refusal: Refusal) -> NoLine {
-    NoLine::NoMemory
+fn of_refusal(refusal: Refusal) -> NoLine {
+    match refusal {
+        Refusal::NoMemory => NoLine::NoMemory,
+        refusal => NoLine::Refused(refusal),
+    }
 }
 
 impl<A: Allocator + Copy> Beside<A> {
@@ -53,7 +56,7 @@ impl<A: Allocator + Copy> Beside<A> {
         };
         match self.world.step(&mount) {
             Ok(_mounted) => self.serve_all().map_err(of_refusal),
-            Err(_) => Err(NoLine::NoMemory),
+            Err(refusal) => Err(of_refusal(refusal)),
         }
     }
 
@@ -162,14 +165,14 @@ impl<A: Allocator + Copy> Beside<A> {
         Ok(words)
     }
 
-    /// The bytes of a word of hex digits, or of `-` for none.
-    fn bytes_of(&self, hex: &[u8]) -> Result<Vec<u8, A>, NoLine> {
+    /// The bytes of a word of hex digits, or of `-` for none. Any other word says no bytes.
+    fn bytes_of(&self, hex: &[u8]) -> Result<Option<Vec<u8, A>>, NoLine> {
         let mut bytes = Vec::new(self.alloc);
         if !is_hex_or_none(hex) {
-            return Err(NoLine::NoMemory);
+            return Ok(None);
         }
         match read_hex_or_none(&mut bytes, hex) {
-            Ok(()) => Ok(bytes),
+            Ok(()) => Ok(Some(bytes)),
             Err(_) => Err(NoLine::NoMemory),
         }
     }
@@ -190,7 +193,9 @@ impl<A: Allocator + Copy> Beside<A> {
                     hex,
                 },
             ) => {
-                let bytes = self.bytes_of(hex)?;
+                let Some(bytes) = self.bytes_of(hex)? else {
+                    return Ok(Vec::new(self.alloc));
+                };
                 let call = Call::Write {
                     open_call,
                     offset,
