@@ -48,6 +48,6 @@ fn an_answer_beside_is_compared(rt: HostRuntime) -> Result<(), Fail> {
     let printed =
         "mounted\ncall 1\nanswer 1 0 x:1:file\ndiffers: answer 1 0 x:1:file, here 1 0\nkernel\nanswers 1 differ 1\n";
     assert_eq!(rt; driven.out.as_slice(), printed.as_bytes());
-    assert_eq!(rt; driven.status, 0);
+    assert_eq!(rt; driven.status, 6);
     Ok(())
 }

@@ -24,6 +24,7 @@ fn task(form: Form) -> Task<'static> {
             open_flags: 0x8002,
             offer: 0x40,
         },
+        is_report_only: false,
     }
 }
 
