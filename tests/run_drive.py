@@ -160,7 +160,8 @@ def run_bugs():
     for bug in BUGS:
         script, line = FOUND[bug]
         lines, status, _ = on_server(form_of(script), script, bug=bug)
-        judge(f"{bug}: {line}", (line in lines, status), (True, 0))
+        judge(f"{bug}: {line}", (line in lines, status), (True, 6))
+        judge(f"{bug}, --report-only", on_server([*form_of(script), "--report-only"], script, bug=bug)[:2], (lines, 0))
         first = next((line for line in lines if FAULTS.match(line)), None)
         judge(f"{bug}: nothing else is said before", first in (line, "differs: answer 3 116, here 3 0 2"), True)
 
@@ -172,7 +173,7 @@ def run_otherwise():
     for bug in OPENING_BUGS:
         lines, status, _ = on_server(["--beside"], OTHERWISE, bug=bug, opens_existing=True)
         first = next((line for line in lines if FAULTS.match(line)), None)
-        judge(bug, (first, status), (FOUND_OTHERWISE[bug], 0))
+        judge(bug, (first, status), (FOUND_OTHERWISE[bug], 6))
 
 
 # --- what is sent in fields that are free
@@ -214,19 +215,19 @@ def run_frames():
     for cut in (1, 4, 15, 16, len(ATTR) - 1):
         judge(f"a frame in two pieces, cut at {cut}", on_frames([], STAT, AGREES, [ATTR[:cut], ATTR[cut:]]), whole)
     judge("two frames in one write", on_frames([], [*STAT, "write"], AGREES, [ATTR + reply(6)]),
-          ([*STATED, *ANSWERED[:2], "written 6 2", "reply to nothing", "kernel"], 0))
+          ([*STATED, *ANSWERED[:2], "written 6 2", "reply to nothing", "kernel"], 6))
     for error in (5, -512):
         judge(f"an error of {error} in a reply", on_frames([], [*STAT, "write"], AGREES, [struct.pack("<IiQ", 16, error, 4), ATTR]),
-              ([*STATED, "written 0 22", "no reply's head", *ANSWERED], 0))
+              ([*STATED, "written 0 22", "no reply's head", *ANSWERED], 6))
     for length in (0, 15, 131073, 0xffffffff):
         judge(f"a len of {length}", on_frames([], STAT, AGREES, [struct.pack("<IiQ", length, 0, 4)]), ([*STATED, "device failed"], 4))
     judge("a frame is cut short by the end", on_frames([], STAT, AGREES, [ATTR[:20], CLOSE]), ([*STATED, "device failed"], 4))
     judge("a frame is cut short by silence", on_frames(SHORT_WAIT, STAT, AGREES, [ATTR[:20]]), ([*STATED, "device failed"], 4))
     judge("a notification", on_frames([], STAT, AGREES, [NOTICE, ATTR]), ([*STATED, NOTIFIED, *ANSWERED], 0))
     judge("no notification: number 0 without a code", on_frames([], [*STAT, "write"], AGREES, [reply(0), ATTR]),
-          ([*STATED, "written 0 2", "reply to nothing", *ANSWERED], 0))
+          ([*STATED, "written 0 2", "reply to nothing", *ANSWERED], 6))
     judge("a body beside an error", on_frames([], STAT, AGREES, [reply(4, bytes(8), error=2)]),
-          ([*STATED, "written 4 22", "body is not its request's", "answer 1 5", "kernel"], 0))
+          ([*STATED, "written 4 22", "body is not its request's", "answer 1 5", "kernel"], 6))
     judge("no reply", on_frames(SHORT_WAIT, STAT, AGREES), ([*STATED, "no reply"], 4))
     judge("no reply to INIT", on_frames([*SHORT_WAIT, "--calls"], ["call stat /"]), (["mounted", "no reply"], 4))
     judge("an end at once", drive(["--calls"], ["call stat /"], lambda connection: None)[:2], (["mounted", "server ended"], 4))
@@ -260,12 +261,13 @@ def run_agreements():
     for minor, lines in [(31, live), (32, live), (22, ended)]:
         wanted = (lines, 0 if lines is live else 4)
         judge(f"7.{minor}", on_frames([] if lines is live else SHORT_WAIT, STAT, [reply(2, agreement(minor))], [ATTR]), wanted)
-    for minor in [23, 28, 30]:
+    # Before 7.23 the body has 24 bytes, and BATCH_FORGET came with 7.16.
+    for minor, size in [(16, 24), (19, 24), (22, 24), (23, 64), (28, 64), (30, 64)]:
         wanted = ([*MOUNTED, f"7.{minor} taken as 7.31", *live[len(MOUNTED):]], 0)
-        judge(f"7.{minor}", on_frames([], STAT, [reply(2, agreement(minor))], [ATTR]), wanted)
-    # Each minor but 15 has a body of 64 bytes.
-    judge("7.28 of another length", on_frames(SHORT_WAIT, STAT, [reply(2, agreement(28)[:24])], [ATTR]),
-          ([*MOUNTED[:2], "written 2 22", "body is not its request's", *ended[3:]], 4))
+        judge(f"7.{minor}", on_frames([], STAT, [reply(2, agreement(minor)[:size])], [ATTR]), wanted)
+    for minor, size in [(28, 24), (23, 24), (14, 24), (19, 23)]:
+        judge(f"7.{minor} of another length", on_frames(SHORT_WAIT, STAT, [reply(2, agreement(minor)[:size])], [ATTR]),
+              ([*MOUNTED[:2], "written 2 22", "body is not its request's", *ended[3:]], 4))
     judge("INIT fails", on_frames(SHORT_WAIT, STAT, [reply(2, error=5)], [ATTR]), (ended, 4))
 
 
@@ -279,7 +281,7 @@ def run_opendir():
     wrong = ["body is not its request's"]
     for said, error, lines in [(reply(own, error=13), 13, []), (reply(own, error=5), 5, []), (reply(own), 5, wrong), (reply(own, bytes(8)), 5, wrong)]:
         judge(f"OPENDIR is {error}", on_frames([], ["mount 0 0", "read p 0", "write", "call list / 0", "read p 0"], AGREES, [said]),
-              ([*MOUNTED, "call 1", *lines, "read 4 READDIR 80", f"answer 1 {error}", "kernel"], 0))
+              ([*MOUNTED, "call 1", *lines, "read 4 READDIR 80", f"answer 1 {error}", "kernel"], 6 if lines else 0))
 
 
 def run_opendir_bugs():
@@ -291,7 +293,7 @@ def run_opendir_bugs():
         name, what = bug.split()
         lines, status, _ = on_server(["--calls"], script, bug=bug)
         answers = [line.replace(" 0 d:1:dir", " 5") for line in good] if bug == "OPENDIR length" else good
-        judge(bug, ([line for line in lines if line.startswith("answer")], status), (answers, 0))
+        judge(bug, ([line for line in lines if line.startswith("answer")], status), (answers, 6))
         judge(f"{bug}: what is said", [line for line in lines if FAULTS.match(line)], [faults[what]] * 2)
     own = 1 << 62
     listing = [*MOUNT, "call list / 0", "read p 0", "write"]
@@ -300,7 +302,7 @@ def run_opendir_bugs():
           on_frames(SHORT_WAIT, listing, AGREES, [struct.pack("<IiQ", 16, -512, own)]), ([*begun, "no reply's head", "no reply"], 4))
     judge("an error of 5 to OPENDIR, said once", on_frames([], [*listing, "write"], AGREES,
           [struct.pack("<IiQ", 16, 5, own), reply(own, struct.pack("<QII", 7, 0, 0))], [reply(4)]),
-          ([*begun, "no reply's head", "read 4 READDIR 80", "written 0 22", "written 4 0", "answer 1 0", "kernel"], 0))
+          ([*begun, "no reply's head", "read 4 READDIR 80", "written 0 22", "written 4 0", "answer 1 0", "kernel"], 6))
 
 
 def run_many():
@@ -309,7 +311,7 @@ def run_many():
     begun = [*MOUNTED, "call 1"]
     opened = reply(1 << 62, struct.pack("<QII", 7, 0, 0))
     for count, last in [(9999, ["read 4 READDIR 80", "written 6 2", "reply to nothing", "kernel"]), (10000, ["device failed: 10000 frames wait"])]:
-        judge(f"{count} frames wait", on_frames([], script, AGREES, [reply(6) * count + opened]), ([*begun, *last], 0 if count < 10000 else 4))
+        judge(f"{count} frames wait", on_frames([], script, AGREES, [reply(6) * count + opened]), ([*begun, *last], 6 if count < 10000 else 4))
     last = ["read 4 READDIR 80", "written 4 0", "answer 1 0", "kernel"]
     judge("20000 notifications", on_frames([], script, AGREES, [NOTICE * 20000 + opened], [reply(4)]), ([*begun, *[NOTIFIED] * 20000, *last], 0))
 
