@@ -102,8 +102,9 @@ def output_of(words, slow=None):
         command.kill()
     if writer is not None:
         os.close(writer)
+    # 6 says no more than the lines.
     status = command.wait()
-    return text.decode() + (f"status {status}\n" if status else "")
+    return text.decode() + (f"status {status}\n" if status not in (0, 6) else "")
 
 
 def launch(server, folder, script, form, slow=None):
