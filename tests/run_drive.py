@@ -562,6 +562,28 @@ def run_check():
 
 # --- lines that a seed chooses
 
+def on_packets(words):
+    """The lines that a run prints whose server is on standard input and output, a frame a packet, and its status."""
+    ours, theirs = socket.socketpair(socket.AF_UNIX, socket.SOCK_SEQPACKET)
+    theirs.setsockopt(socket.SOL_SOCKET, socket.SO_RCVTIMEO, struct.pack("ll", SECONDS, 0))
+    ours.settimeout(SECONDS)
+    server = Server()
+
+    def serve():
+        while frame := ours.recv(1 << 17):
+            opcode, unique, node = struct.unpack_from("<IQQ", frame, 4)
+            send(ours, *server.frames(opcode, unique, node, frame[40:]))
+
+    run = subprocess.Popen([PROGRAM, "drive", *words, "-"], stdin=theirs, stdout=theirs, stderr=subprocess.PIPE, text=True)
+    theirs.close()
+    thread = threading.Thread(target=serve)
+    thread.start()
+    lines = run.communicate(timeout=SECONDS)[1].splitlines()
+    thread.join()
+    ours.close()
+    return lines, run.returncode
+
+
 def run_random():
     """One seed is one run, what is printed runs again, and a bug is found."""
     words = ["--random", "--seed", "1", "--events", "80"]
@@ -569,8 +591,9 @@ def run_random():
     judge("a seed: nothing is wrong", (status, [line for line in lines if FAULTS.search(line)], lines[-1]), (0, [], "# kernel"))
     judge("one seed is one run", on_server(words, [])[:2], (lines, 0))
     judge("its output runs again", on_server(["--check"], lines)[:2], ([line[2:] for line in lines if line.startswith("# ")], 0))
-    lines, status, _ = on_server(words, [], bug="count lost")
-    judge("a seed: an answer differs", (status, any(line.startswith("# differs: ") for line in lines)), (6, True))
+    judge("one seed is one run, on packets", on_packets(words), (lines, 0))
+    lines, status, _ = on_server(words, [], bug="reply twice")
+    judge("a seed: a bug is found", (status, any(FAULTS.search(line) for line in lines)), (6, True))
 
 
 for part in (run_bugs, run_otherwise, run_fields, run_frames, run_abort, run_closings, run_agreements, run_opendir, run_opendir_bugs, run_many, run_talking, run_refusals, run_waits, run_words, run_input, run_packets, run_trace, run_check, run_random):
