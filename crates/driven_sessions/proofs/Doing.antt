@@ -1,0 +1,147 @@
+-- What a request's frame is read as: it reads one request, or interrupts one, or does nothing that counts here.
+use Rattle.std.proofs.Common.{◌≡◌, ◌<◌, ◌^◌, inl, inr, ℕ, Bool, true, false, not, ◌&&◌, List, [], ◌∷◌, ◌++◌, Option, Some, None, refl, sym, ◌∙◌, ap, nat_eq, nat_le, arith}
+use Rattle.std.specs.List.{list_all}
+use Rattle.std.proofs.lemmas.Bool.{false≢true}
+use Rattle.std.proofs.lemmas.Bool.Decides.{nat_tests}
+use Rattle.fuse_protocol.specs.declared.agreed.Agreed.{Agreed}
+use Rattle.fuse_protocol.specs.declared.opcode.Opcode.{Opcode}
+use Rattle.fuse_protocol.specs.declared.opcode.Opcode.TheVariants as op
+use Rattle.fuse_protocol.specs.declared.request.OpenHandle.{OpenHandle}
+use Rattle.fuse_protocol.specs.declared.request.OpenHandle.TheVariants as handle
+use Rattle.fuse_protocol.specs.Pairs.{pairs_of_row}
+use Rattle.fuse_protocol.specs.Places.{number_in, places_at}
+use Rattle.fuse_protocol.specs.Requests.{RequestMessage}
+use Rattle.fuse_protocol.specs.Table.{code_of, row_at}
+use Rattle.fuse_sessions.specs.declared.act.Act.{Act}
+use Rattle.fuse_sessions.specs.declared.act.Act.TheVariants as act
+use Rattle.fuse_sessions.specs.declared.act.Asked.{Asked}
+use Rattle.fuse_sessions.specs.declared.act.OpenFile.{OpenFile}
+use Rattle.fuse_sessions.specs.declared.fault.Fault.TheVariants as fault
+use Rattle.fuse_sessions.specs.declared.known.Known.{Known}
+use Rattle.fuse_sessions.specs.Frames.{AreRequestActs, IsRequestOf}
+use Rattle.fuse_sessions.specs.RequestActs.{asked_of, asking, doing, forgets_in, naming, number_of, releasing, request_acts, using, writing}
+use Rattle.fuse_sessions.specs.UnreadRequests.{asking_unread, has_header, malformed, may_be_known, opcode_in, takes_no_reply, unique_in, unjudged}
+use Rattle.driven_sessions.proofs.Calm.{AreCalm, each_of, either, is_calm}
+
+-- One request is read under the frame's number, or forgets, or one is interrupted, or nothing of these.
+pub data Does (agreed : Agreed) (bytes : List ℕ) (acts : List Act) : Type 0 where
+  reads : (opcode_in bytes ≡ 36 → ⊥) → (before after : List Act) → AreCalm before → AreCalm after → (o : Option Opcode)
+      → acts ≡ before ++ act.Read o (unique_in bytes) ∷ after → Does agreed bytes acts
+  forgets_one : (m : RequestMessage) → IsRequestOf agreed bytes (op.Forget, m)
+      → acts ≡ act.Arrives ∷ act.Begins op.Forget ∷ act.Read (Some op.Forget) (unique_in bytes)
+      ∷ act.Forgets m.nodeid (number_of (number_in (places_at op.Forget).forgotten m.fixed)) ∷ [] → Does agreed bytes acts
+  forgets_many : (m : RequestMessage) → IsRequestOf agreed bytes (op.BatchForget, m)
+      → acts ≡ act.Arrives ∷ act.Begins op.BatchForget ∷ act.Read (Some op.BatchForget) (unique_in bytes)
+      ∷ forgets_in (pairs_of_row (row_at op.BatchForget).tail m.tail) → Does agreed bytes acts
+  interrupts : (m : RequestMessage) → IsRequestOf agreed bytes (op.Interrupt, m)
+      → acts ≡ act.Arrives ∷ act.Begins op.Interrupt
+      ∷ act.Interrupts (unique_in bytes) (number_of (number_in (places_at op.Interrupt).interrupted m.fixed)) ∷ []
+      → Does agreed bytes acts
+  nothing : AreCalm acts → Does agreed bytes acts
+
+-- ---- what a request does behind its reading
+
+naming_calm : (node : ℕ) → AreCalm (naming node)
+naming_calm node = either is_calm (nat_eq node 0) [] _ refl refl
+
+using_calm : (file : Option OpenFile) → AreCalm (using file)
+using_calm None = refl
+using_calm (Some file) = refl
+
+releasing_calm : (o : Opcode) (node : ℕ) (h : OpenHandle) → AreCalm (releasing o node h)
+releasing_calm op.Release node (handle.File fh) = refl
+releasing_calm op.Releasedir node (handle.Directory fh) = refl
+releasing_calm op.Release node h = refl
+releasing_calm op.Releasedir node h = refl
+releasing_calm o node h = refl
+
+writing_calm : (o : Opcode) (m : RequestMessage) → AreCalm (writing o m)
+writing_calm op.Write m = refl
+writing_calm o m = refl
+
+abbrev behind : Opcode → RequestMessage → Asked → List Act
+behind o m asked = naming asked.nodeid ++ naming asked.other ++ using asked.uses ++ using asked.copies_to
+    ++ releasing o m.nodeid m.handle ++ writing o m ++ act.Asks m.unique asked ∷ []
+
+behind_calm : (o : Opcode) (m : RequestMessage) (asked : Asked) → AreCalm (behind o m asked)
+behind_calm o m asked =
+    let first : List Act = naming asked.nodeid ++ naming asked.other in
+    let second : List Act = first ++ using asked.uses in
+    let third : List Act = second ++ using asked.copies_to in
+    let fourth : List Act = third ++ releasing o m.nodeid m.handle in
+    let fifth : List Act = fourth ++ writing o m in
+    let one = each_of is_calm (naming asked.nodeid) (naming asked.other) (naming_calm asked.nodeid) (naming_calm asked.other) in
+    let two = each_of is_calm first (using asked.uses) one (using_calm asked.uses) in
+    let three = each_of is_calm second (using asked.copies_to) two (using_calm asked.copies_to) in
+    let four = each_of is_calm third (releasing o m.nodeid m.handle) three (releasing_calm o m.nodeid m.handle) in
+    let five = each_of is_calm fourth (writing o m) four (writing_calm o m) in
+    each_of is_calm fifth (act.Asks m.unique asked ∷ []) five refl
+
+-- ---- a whole request
+
+not_again : (b : Bool) (n : ℕ) → n < 2 ^ 63 → (b && nat_le (2 ^ 63) n) ≡ false
+not_again false n low = refl
+not_again true n low = grind (arith, nat_tests, low)
+
+module _ (k : Known) (bytes : List ℕ) (acts : List Act)
+    (low : (opcode_in bytes ≡ 36 → ⊥) → unique_in bytes < 2 ^ 63) where
+  module _ (o : Opcode) (m : RequestMessage) (is : IsRequestOf k.agreed bytes (o, m))
+      (does : acts ≡ request_acts k.has_resent o m) where
+    other : nat_eq (code_of o) 36 ≡ false → opcode_in bytes ≡ 36 → ⊥
+    other apart e = false≢true (sym apart ∙ ap (λ (n : ℕ). nat_eq n 36) (sym is.opcode ∙ e))
+
+    row_acts : nat_eq (code_of o) 36 ≡ false → acts ≡ request_acts false o m
+    row_acts apart =
+        let unique = is.unique in
+        let under = low (other apart) in
+        let below : m.unique < 2 ^ 63 = omega (arith, under, unique) in
+        does ∙ ap (λ (b : Bool). act.Arrives ∷ act.Begins o ∷ doing b o m) (not_again k.has_resent m.unique below)
+
+    reads_one : nat_eq (code_of o) 36 ≡ false → acts ≡ act.Arrives ∷ act.Begins o ∷ asking o m (asked_of o m)
+        → Does k.agreed bytes acts
+    reads_one apart same = reads (other apart) (act.Arrives ∷ act.Begins o ∷ []) (behind o m (asked_of o m)) refl
+        (behind_calm o m (asked_of o m)) (Some o)
+        (same ∙ ap (λ (u : ℕ). act.Arrives ∷ act.Begins o ∷ act.Read (Some o) u ∷ behind o m (asked_of o m)) (sym is.unique))
+
+  by_row : (o : Opcode) (m : RequestMessage) (is : IsRequestOf k.agreed bytes (o, m))
+      → acts ≡ request_acts k.has_resent o m → Does k.agreed bytes acts
+  by_row op.Interrupt m is does = interrupts m is (does
+      ∙ ap (λ (u : ℕ). act.Arrives ∷ act.Begins op.Interrupt
+      ∷ act.Interrupts u (number_of (number_in (places_at op.Interrupt).interrupted m.fixed)) ∷ []) (sym is.unique))
+  by_row op.NotifyReply m is does = nothing (ap (list_all is_calm) (row_acts op.NotifyReply m is does refl))
+  by_row op.Forget m is does = forgets_one m is (row_acts op.Forget m is does refl
+      ∙ ap (λ (u : ℕ). act.Arrives ∷ act.Begins op.Forget ∷ act.Read (Some op.Forget) u
+      ∷ act.Forgets m.nodeid (number_of (number_in (places_at op.Forget).forgotten m.fixed)) ∷ []) (sym is.unique))
+  by_row op.BatchForget m is does = forgets_many m is (row_acts op.BatchForget m is does refl
+      ∙ ap (λ (u : ℕ). act.Arrives ∷ act.Begins op.BatchForget ∷ act.Read (Some op.BatchForget) u
+      ∷ forgets_in (pairs_of_row (row_at op.BatchForget).tail m.tail)) (sym is.unique))
+  by_row o m is does = reads_one o m is does refl (row_acts o m is does refl)
+
+  -- One that is not read by a row.
+  by_none : (h t : Bool) → has_header bytes ≡ h → takes_no_reply (opcode_in bytes) ≡ t
+      → acts ≡ act.Arrives ∷ (malformed k.offered bytes ++ asking_unread bytes) → Does k.agreed bytes acts
+  by_none h t header wanted does = by h t header wanted
+    where
+      faulty : AreCalm (malformed k.offered bytes)
+      faulty = either is_calm (may_be_known k.offered bytes) [] (act.Faulty fault.MalformedRequest ∷ []) refl refl
+
+      quiet : (has_header bytes && not (takes_no_reply (opcode_in bytes))) ≡ false → Does k.agreed bytes acts
+      quiet e =
+          let none : asking_unread bytes ≡ [] = rw e refl in
+          nothing (ap (list_all is_calm) (does ∙ ap (λ (l : List Act). act.Arrives ∷ (malformed k.offered bytes ++ l)) none)
+          ∙ each_of is_calm (malformed k.offered bytes) [] faulty refl)
+
+      by : (h t : Bool) → has_header bytes ≡ h → takes_no_reply (opcode_in bytes) ≡ t → Does k.agreed bytes acts
+      by true false header wanted =
+          let asked : asking_unread bytes ≡ act.Read None (unique_in bytes) ∷ act.Asks (unique_in bytes) unjudged ∷ [] =
+          rw (header, wanted) refl in
+          reads (λ e. false≢true (sym wanted ∙ ap takes_no_reply e)) (act.Arrives ∷ malformed k.offered bytes)
+          (act.Asks (unique_in bytes) unjudged ∷ []) faulty refl None
+          (does ∙ ap (λ (l : List Act). act.Arrives ∷ (malformed k.offered bytes ++ l)) asked)
+      by true true header wanted = quiet (rw (header, wanted) refl)
+      by false t header wanted = quiet (rw header refl)
+
+  pub request_does : AreRequestActs k bytes acts → Does k.agreed bytes acts
+  request_does (inl ((o, m), is, does)) = by_row o m is does
+  request_does (inr (none, does)) =
+      by_none (has_header bytes) (takes_no_reply (opcode_in bytes)) refl refl does

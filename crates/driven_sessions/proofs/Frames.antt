@@ -1,0 +1,77 @@
+-- What the frames that are sent say by their headers.
+use Rattle.std.proofs.Common.{◌≡◌, ℕ, ◌<◌, ◌^◌, Bool, true, false, List, [], ◌∷◌, ◌++◌, Option, Some, None, nat_eq, sym, ◌∙◌, ap, append-nil, arith}
+use Rattle.fk_fields.specs.Fields.{Field, number_at, raw, u32, u64, free32, spellings, ReadsAs}
+use Rattle.fk_wire.specs.Opcodes.{code_of}
+use Rattle.fk_wire.specs.Requests.{RequestContent, opcode_of}
+use Rattle.fk_wire.specs.Requests as wire
+use Rattle.fk_wire.proofs.Frames.{reads_back, spellings-append}
+use Rattle.fuse_spec.specs.declared.Opened.{Opened}
+use Rattle.fuse_spec.specs.Kernel.Messages.{Request, RequestBody, interrupt}
+use Rattle.fuse_frames.specs.RequestTies.{SaysRequest, body_in}
+use Rattle.fk_drive_frames.specs.OwnRequests.{IsOpendir, IsReleasedir}
+use Rattle.fuse_sessions.specs.UnreadRequests.{opcode_in, unique_in}
+
+-- ---- frames of the kernel's requests
+
+abbrev pub is_interrupt : RequestBody → Bool
+is_interrupt (interrupt original) = true
+is_interrupt body = false
+
+abbrev interrupts_in : Option RequestBody → Bool
+interrupts_in None = false
+interrupts_in (Some body) = is_interrupt body
+
+code_of_interrupt : (nodeid : ℕ) (c : RequestContent) (body : RequestBody) → body_in nodeid c ≡ Some body
+    → nat_eq (code_of (opcode_of c)) 36 ≡ is_interrupt body
+code_of_interrupt nodeid (wire.lookup name) body says = ap interrupts_in says
+code_of_interrupt nodeid c body says = ap interrupts_in says
+
+module _ (frame : List ℕ) (request : Request) (says : SaysRequest frame request) where
+  pub frame_unique : unique_in frame ≡ request.unique
+  frame_unique = says.spells.3.1.1.0 ∙ says.unique
+
+  pub frame_interrupt : nat_eq (opcode_in frame) 36 ≡ is_interrupt request.body
+  frame_interrupt =
+      ap (λ (n : ℕ). nat_eq n 36) says.spells.3.1.0
+      ∙ code_of_interrupt says.message.nodeid says.message.content request.body says.says
+
+-- ---- frames that are not the kernel's
+
+-- A header whose number fits its field says it, whatever is behind.
+head_says : (len code unique : ℕ) (rest : List ℕ) → len < 256 ^ 4 → code < 256 ^ 4 → unique < 2 ^ 63
+    → (number_at 4 4 (spellings (u32 len ∷ u32 code ∷ u64 unique ∷ []) ++ rest) ≡ code)
+    × (number_at 8 8 (spellings (u32 len ∷ u32 code ∷ u64 unique ∷ []) ++ rest) ≡ unique)
+head_says len code unique rest short known low =
+    let fields : List Field = u32 len ∷ u32 code ∷ u64 unique ∷ raw rest ∷ [] in
+    let reads : ReadsAs 0 fields (spellings fields) = reads_back fields [] (short, (known, (omega (arith, low), tt))) tt in
+    let same : spellings fields ≡ spellings (u32 len ∷ u32 code ∷ u64 unique ∷ []) ++ rest =
+    spellings-append (u32 len ∷ u32 code ∷ u64 unique ∷ []) (raw rest ∷ [])
+    ∙ ap (λ (l : List ℕ). spellings (u32 len ∷ u32 code ∷ u64 unique ∷ []) ++ l) (append-nil rest) in
+    (ap (number_at 4 4) (sym same) ∙ reads.1.0, ap (number_at 8 8) (sym same) ∙ reads.1.1.0)
+
+abbrev behind_opendir : ℕ → List Field
+behind_opendir node = u64 node ∷ free32 0 ∷ free32 0 ∷ free32 0 ∷ free32 0 ∷ u32 0x10000 ∷ u32 0 ∷ []
+
+abbrev behind_releasedir : Opened → List Field
+behind_releasedir opened = u64 opened.nodeid ∷ free32 0 ∷ free32 0 ∷ free32 0 ∷ free32 0
+    ∷ u64 opened.fh ∷ u32 0x10000 ∷ u32 0 ∷ u64 0 ∷ []
+
+-- They are no INTERRUPTs, and have their numbers.
+abbrev pub HasOwnHead : List ℕ → ℕ → Type 0
+HasOwnHead bytes unique = (nat_eq (opcode_in bytes) 36 ≡ false) × (unique_in bytes ≡ unique)
+
+pub opendir_head : (bytes : List ℕ) (unique node : ℕ) → IsOpendir bytes unique node → unique < 2 ^ 63
+    → HasOwnHead bytes unique
+opendir_head bytes unique node is low =
+    let head = head_says 48 27 unique (spellings (behind_opendir node)) (omega arith) (omega arith) low in
+    let parts : bytes ≡ spellings (u32 48 ∷ u32 27 ∷ u64 unique ∷ []) ++ spellings (behind_opendir node) =
+    is ∙ spellings-append (u32 48 ∷ u32 27 ∷ u64 unique ∷ []) (behind_opendir node) in
+    (ap (λ (n : ℕ). nat_eq n 36) (ap (number_at 4 4) parts ∙ head.0), ap (number_at 8 8) parts ∙ head.1)
+
+pub releasedir_head : (bytes : List ℕ) (unique : ℕ) (opened : Opened) → IsReleasedir bytes unique opened
+    → unique < 2 ^ 63 → HasOwnHead bytes unique
+releasedir_head bytes unique opened is low =
+    let head = head_says 64 29 unique (spellings (behind_releasedir opened)) (omega arith) (omega arith) low in
+    let parts : bytes ≡ spellings (u32 64 ∷ u32 29 ∷ u64 unique ∷ []) ++ spellings (behind_releasedir opened) =
+    is ∙ spellings-append (u32 64 ∷ u32 29 ∷ u64 unique ∷ []) (behind_releasedir opened) in
+    (ap (λ (n : ℕ). nat_eq n 36) (ap (number_at 4 4) parts ∙ head.0), ap (number_at 8 8) parts ∙ head.1)

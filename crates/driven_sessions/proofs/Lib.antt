@@ -1,0 +1,10 @@
+mod Calm
+mod Doing
+mod Leading
+mod Numbers
+mod Steps
+mod Frames
+mod Spent
+mod Reading
+mod Stepping
+mod Never

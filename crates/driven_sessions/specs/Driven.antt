@@ -1,0 +1,37 @@
+-- A kernel that keeps the rules is never accused: of what `drive` sends the definitions of sessions have no fault.
+use Rattle.std.specs.Prelude.{◌≡◌, ◌≤◌, ℕ, Bool, true, List, [], ◌∷◌}
+use Rattle.fuse_spec.specs.Kernel.Uniques.{number_limit}
+use Rattle.fuse_device.specs.Transfers.{Transfer}
+use Rattle.fk_drive.specs.Driving.{Driven, Drives, first_driven, next, nothing}
+use Rattle.fk_drive_theorem.specs.TakenOnce.{mounts_in}
+use Rattle.fuse_sessions.specs.declared.fault.Fault.{Fault}
+use Rattle.fuse_sessions.specs.declared.known.Known.{Known}
+use Rattle.fuse_sessions.specs.declared.transfer.Transfer.{Transfer as Said}
+use Rattle.fuse_sessions.specs.declared.transfer.Transfer.TheVariants as said
+use Rattle.fuse_sessions.specs.Faults.{HasFaultAt}
+use Rattle.fuse_sessions.specs.Frames.{IsSession}
+use Rattle.fuse_sessions.specs.Sessions.{Session}
+use Rattle.driven_sessions.specs.Transfers.{AreSaid}
+
+-- The kernel mounts once at most. A second mount over one connection begins again at the first number.
+abbrev pub IsOneMount : {old : Driven} {log : List Transfer} {new : Driven} → Drives old log new → Type 0
+IsOneMount run = mounts_in run ≤ 1
+
+-- The kernel's coming number never passes its limit, as that of no kernel of `fk_kernel` does: above are OPENDIR's.
+abbrev pub HasNumbers : {old : Driven} {log : List Transfer} {new : Driven} → Drives old log new → Type 0
+HasNumbers nothing = Unit {0}
+HasNumbers (next before mid run log new step) = HasNumbers run × (new.kernel.queues.next ≤ number_limit)
+
+-- These are the transfers of a session of what went over a device. First it is said that requests may be out of order, as
+-- where several threads read: OPENDIR has higher numbers than the kernel's next requests.
+abbrev pub IsSessionOf : List Transfer → Session → Type 0
+IsSessionOf log s = (ts : List Said) × AreSaid log ts × (k : Known) × IsSession (said.SeveralReaders ∷ ts) k s
+
+-- No act of a session has, at its moment, a fault of this group.
+abbrev pub ShowsNone : (Fault → Bool) → Session → Type 0
+ShowsNone group s = (place : ℕ) (f : Fault) → HasFaultAt [] s place f → group f ≡ true → ⊥
+
+-- A kernel is never accused of a group of faults, whatever server it drives, over any device.
+abbrev pub NeverAccused : (Fault → Bool) → Type 0
+NeverAccused group = (asks : Bool) (log : List Transfer) (new : Driven) (run : Drives (first_driven asks) log new)
+    → IsOneMount run → HasNumbers run → (s : Session) → IsSessionOf log s → ShowsNone group s
