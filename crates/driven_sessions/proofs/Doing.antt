@@ -1,7 +1,7 @@
 -- What a request's frame is read as: it reads one request, or interrupts one, or does nothing that counts here.
-use Rattle.std.proofs.Common.{◌≡◌, ◌<◌, ◌^◌, inl, inr, ℕ, Bool, true, false, not, ◌&&◌, List, [], ◌∷◌, ◌++◌, Option, Some, None, refl, sym, ◌∙◌, ap, nat_eq, nat_le, arith}
+use Rattle.std.proofs.Common.{◌≡◌, ◌≤◌, ◌^◌, inl, inr, ℕ, Bool, true, false, not, ◌&&◌, List, [], ◌∷◌, ◌++◌, Option, Some, None, refl, sym, ◌∙◌, ap, nat_eq, nat_le, arith, if◌then◌else◌}
 use Rattle.std.specs.List.{list_all}
-use Rattle.std.proofs.lemmas.Bool.{false≢true}
+use Rattle.std.proofs.lemmas.Bool.{and_parts, false≢true}
 use Rattle.std.proofs.lemmas.Bool.Decides.{nat_tests}
 use Rattle.fuse_protocol.specs.declared.agreed.Agreed.{Agreed}
 use Rattle.fuse_protocol.specs.declared.opcode.Opcode.{Opcode}
@@ -19,7 +19,7 @@ use Rattle.fuse_sessions.specs.declared.act.OpenFile.{OpenFile}
 use Rattle.fuse_sessions.specs.declared.fault.Fault.TheVariants as fault
 use Rattle.fuse_sessions.specs.declared.known.Known.{Known}
 use Rattle.fuse_sessions.specs.Frames.{AreRequestActs, IsRequestOf}
-use Rattle.fuse_sessions.specs.RequestActs.{asked_of, asking, doing, forgets_in, naming, number_of, releasing, request_acts, using, writing}
+use Rattle.fuse_sessions.specs.RequestActs.{asked_of, asking, forgets_in, naming, number_of, releasing, request_acts, resent, using, writing}
 use Rattle.fuse_sessions.specs.UnreadRequests.{asking_unread, has_header, malformed, may_be_known, opcode_in, takes_no_reply, unique_in, unjudged}
 use Rattle.driven_sessions.proofs.Calm.{AreCalm, each_of, either, is_calm}
 
@@ -37,6 +37,9 @@ pub data Does (agreed : Agreed) (bytes : List ℕ) (acts : List Act) : Type 0 wh
       → acts ≡ act.Arrives ∷ act.Begins op.Interrupt
       ∷ act.Interrupts (unique_in bytes) (number_of (number_in (places_at op.Interrupt).interrupted m.fixed)) ∷ []
       → Does agreed bytes acts
+  -- it is read once more, under a number with the highest bit
+  comes_again : 2 ^ 63 ≤ unique_in bytes → nat_eq (opcode_in bytes) 36 ≡ false → (o : Opcode) (m : RequestMessage)
+      → acts ≡ act.Arrives ∷ act.Begins o ∷ resent o m → Does agreed bytes acts
   nothing : AreCalm acts → Does agreed bytes acts
 
 -- ---- what a request does behind its reading
@@ -79,23 +82,16 @@ behind_calm o m asked =
 
 -- ---- a whole request
 
-not_again : (b : Bool) (n : ℕ) → n < 2 ^ 63 → (b && nat_le (2 ^ 63) n) ≡ false
-not_again false n low = refl
-not_again true n low = grind (arith, nat_tests, low)
+at_least : (b : Bool) (n : ℕ) → (b && nat_le (2 ^ 63) n) ≡ true → 2 ^ 63 ≤ n
+at_least b n is = let both = and_parts b (nat_le (2 ^ 63) n) is in by both.1
+  where
+    by : nat_le (2 ^ 63) n ≡ true → 2 ^ 63 ≤ n
+    by high = grind (arith, nat_tests, high)
 
-module _ (k : Known) (bytes : List ℕ) (acts : List Act)
-    (low : (opcode_in bytes ≡ 36 → ⊥) → unique_in bytes < 2 ^ 63) where
-  module _ (o : Opcode) (m : RequestMessage) (is : IsRequestOf k.agreed bytes (o, m))
-      (does : acts ≡ request_acts k.has_resent o m) where
+module _ (k : Known) (bytes : List ℕ) (acts : List Act) where
+  module _ (o : Opcode) (m : RequestMessage) (is : IsRequestOf k.agreed bytes (o, m)) where
     other : nat_eq (code_of o) 36 ≡ false → opcode_in bytes ≡ 36 → ⊥
     other apart e = false≢true (sym apart ∙ ap (λ (n : ℕ). nat_eq n 36) (sym is.opcode ∙ e))
-
-    row_acts : nat_eq (code_of o) 36 ≡ false → acts ≡ request_acts false o m
-    row_acts apart =
-        let unique = is.unique in
-        let under = low (other apart) in
-        let below : m.unique < 2 ^ 63 = omega (arith, under, unique) in
-        does ∙ ap (λ (b : Bool). act.Arrives ∷ act.Begins o ∷ doing b o m) (not_again k.has_resent m.unique below)
 
     reads_one : nat_eq (code_of o) 36 ≡ false → acts ≡ act.Arrives ∷ act.Begins o ∷ asking o m (asked_of o m)
         → Does k.agreed bytes acts
@@ -103,19 +99,28 @@ module _ (k : Known) (bytes : List ℕ) (acts : List Act)
         (behind_calm o m (asked_of o m)) (Some o)
         (same ∙ ap (λ (u : ℕ). act.Arrives ∷ act.Begins o ∷ act.Read (Some o) u ∷ behind o m (asked_of o m)) (sym is.unique))
 
+    other_row : nat_eq (code_of o) 36 ≡ false → (again : Bool) → (k.has_resent && nat_le (2 ^ 63) m.unique) ≡ again
+        → acts ≡ act.Arrives ∷ act.Begins o ∷ (if again then resent o m else asking o m (asked_of o m))
+        → Does k.agreed bytes acts
+    other_row apart false once same = reads_one apart same
+    other_row apart true again same =
+        let high = at_least k.has_resent m.unique again in
+        let unique = is.unique in
+        comes_again (omega (arith, high, unique)) (ap (λ (n : ℕ). nat_eq n 36) is.opcode ∙ apart) o m same
+
   by_row : (o : Opcode) (m : RequestMessage) (is : IsRequestOf k.agreed bytes (o, m))
       → acts ≡ request_acts k.has_resent o m → Does k.agreed bytes acts
   by_row op.Interrupt m is does = interrupts m is (does
       ∙ ap (λ (u : ℕ). act.Arrives ∷ act.Begins op.Interrupt
       ∷ act.Interrupts u (number_of (number_in (places_at op.Interrupt).interrupted m.fixed)) ∷ []) (sym is.unique))
-  by_row op.NotifyReply m is does = nothing (ap (list_all is_calm) (row_acts op.NotifyReply m is does refl))
-  by_row op.Forget m is does = forgets_one m is (row_acts op.Forget m is does refl
+  by_row op.NotifyReply m is does = nothing (ap (list_all is_calm) does)
+  by_row op.Forget m is does = forgets_one m is (does
       ∙ ap (λ (u : ℕ). act.Arrives ∷ act.Begins op.Forget ∷ act.Read (Some op.Forget) u
       ∷ act.Forgets m.nodeid (number_of (number_in (places_at op.Forget).forgotten m.fixed)) ∷ []) (sym is.unique))
-  by_row op.BatchForget m is does = forgets_many m is (row_acts op.BatchForget m is does refl
+  by_row op.BatchForget m is does = forgets_many m is (does
       ∙ ap (λ (u : ℕ). act.Arrives ∷ act.Begins op.BatchForget ∷ act.Read (Some op.BatchForget) u
       ∷ forgets_in (pairs_of_row (row_at op.BatchForget).tail m.tail)) (sym is.unique))
-  by_row o m is does = reads_one o m is does refl (row_acts o m is does refl)
+  by_row o m is does = other_row o m is refl (k.has_resent && nat_le (2 ^ 63) m.unique) refl does
 
   -- One that is not read by a row.
   by_none : (h t : Bool) → has_header bytes ≡ h → takes_no_reply (opcode_in bytes) ≡ t

@@ -1,8 +1,9 @@
 -- What the frames that are sent say by their headers.
 use Rattle.std.proofs.Common.{◌≡◌, ℕ, ◌<◌, ◌^◌, Bool, true, false, List, [], ◌∷◌, ◌++◌, Option, Some, None, nat_eq, sym, ◌∙◌, ap, append-nil, arith}
+use Rattle.std.proofs.lemmas.Bool.{false≢true}
 use Rattle.fk_fields.specs.Fields.{Field, number_at, raw, u32, u64, free32, spellings, ReadsAs}
-use Rattle.fk_wire.specs.Opcodes.{code_of}
-use Rattle.fk_wire.specs.Requests.{RequestContent, opcode_of}
+use Rattle.fk_wire.specs.Opcodes.{code_of, has_node}
+use Rattle.fk_wire.specs.Requests.{RequestContent, nodeid_field, opcode_of, request_body}
 use Rattle.fk_wire.specs.Requests as wire
 use Rattle.fk_wire.proofs.Frames.{reads_back, spellings-append}
 use Rattle.fuse_spec.specs.declared.Opened.{Opened}
@@ -26,6 +27,18 @@ code_of_interrupt : (nodeid : ℕ) (c : RequestContent) (body : RequestBody) →
 code_of_interrupt nodeid (wire.lookup name) body says = ap interrupts_in says
 code_of_interrupt nodeid c body says = ap interrupts_in says
 
+past_node : (b : Bool) (node : ℕ) (fs : List Field) (bytes : List ℕ)
+    → ReadsAs 16 (nodeid_field b node ∷ free32 0 ∷ free32 0 ∷ free32 0 ∷ free32 0 ∷ fs) bytes → ReadsAs 40 fs bytes
+past_node true node fs bytes reads = reads.1
+past_node false node fs bytes reads = reads
+
+some_body : (a b : RequestBody) → ◌≡◌ {A = Option RequestBody} (Some a) (Some b) → a ≡ b
+some_body a b same = ap of same
+  where
+    of : Option RequestBody → RequestBody
+    of None = a
+    of (Some x) = x
+
 module _ (frame : List ℕ) (request : Request) (says : SaysRequest frame request) where
   pub frame_unique : unique_in frame ≡ request.unique
   frame_unique = says.spells.3.1.1.0 ∙ says.unique
@@ -34,6 +47,18 @@ module _ (frame : List ℕ) (request : Request) (says : SaysRequest frame reques
   frame_interrupt =
       ap (λ (n : ℕ). nat_eq n 36) says.spells.3.1.0
       ∙ code_of_interrupt says.message.nodeid says.message.content request.body says.says
+
+  -- An INTERRUPT has its request's number behind the header.
+  original_of : (c : RequestContent) → body_in says.message.nodeid c ≡ Some request.body → ReadsAs 40 (request_body c) frame
+      → is_interrupt request.body ≡ true → request.body ≡ interrupt (number_at 40 8 frame)
+  original_of (wire.interrupt original) is reads interrupts =
+      some_body request.body (interrupt original) (sym is) ∙ ap interrupt (sym reads.0)
+  original_of c is reads interrupts = absurd (false≢true (ap interrupts_in is ∙ interrupts))
+
+  pub frame_original : is_interrupt request.body ≡ true → request.body ≡ interrupt (number_at 40 8 frame)
+  frame_original = original_of says.message.content says.says (past_node
+      (has_node (opcode_of says.message.content)) says.message.nodeid (request_body says.message.content) frame
+      says.spells.3.1.1.1)
 
 -- ---- frames that are not the kernel's
 

@@ -8,3 +8,6 @@ mod Spent
 mod Reading
 mod Stepping
 mod Never
+mod Evens
+mod Sending
+mod Single

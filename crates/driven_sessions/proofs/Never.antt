@@ -29,11 +29,11 @@ use Rattle.fk_drive.specs.Driving.{Driven, Drives, first_driven, next, nothing a
 use Rattle.fk_drive_theorem.specs.TakenOnce.{mounts_at, mounts_in}
 use Rattle.fk_drive_theorem.proofs.OneEach.{run_one}
 use Rattle.fk_drive_theorem.proofs.RunsTally.{run_tallied}
-use Rattle.driven_sessions.specs.Driven.{HasNumbers, NeverAccused}
+use Rattle.driven_sessions.specs.Driven.{HasNumbers, NeverAccusedInOneMount}
 use Rattle.driven_sessions.specs.Groups.{is_of_odd_numbers, is_of_used_numbers}
 use Rattle.driven_sessions.specs.Transfers.{AreSaid}
 use Rattle.driven_sessions.proofs.Calm.{AreCalm, is_of_numbers, written_calm}
-use Rattle.driven_sessions.proofs.Doing.{Does, forgets_many, forgets_one, interrupts, nothing as does_nothing, reads, request_does}
+use Rattle.driven_sessions.proofs.Doing.{Does, comes_again, forgets_many, forgets_one, interrupts, nothing as does_nothing, reads, request_does}
 use Rattle.driven_sessions.proofs.Leading.{AreFree, calm_free, calm_none, calm_read, free_append, lead_parts, never_at, one_read, quiet_read, said_parts}
 use Rattle.driven_sessions.proofs.Spent.{Adds, Goes, IsNoInterrupt, IsQuiet, Keeps, SentRight, cut_off, ends, keeps_still, nothing, quiet, receives, same_keeps, sends}
 use Rattle.driven_sessions.proofs.Stepping.{mount_goes, step_goes}
@@ -49,7 +49,7 @@ readings_within fault.OddNumber is = refl
 readings_within fault.NumberUsedTwice is = refl
 readings_within f is = cc
 
-by_judged : (Goal : Type 0) (o : Option Unjudged) (P : Type 0) (R : Unjudged → Type 0) → (o ≡ None → P → Goal)
+pub by_judged : (Goal : Type 0) (o : Option Unjudged) (P : Type 0) (R : Unjudged → Type 0) → (o ≡ None → P → Goal)
     → ((why : Unjudged) → o ≡ Some why → R why → Goal) → MatchOption o P R → Goal
 by_judged Goal None P R judged unjudged is = judged refl is
 by_judged Goal (Some why) P R judged unjudged is = unjudged why refl is
@@ -142,12 +142,12 @@ module _ (k : Known) (frame : List ℕ) (s : Session) (acts : List Act) (right :
       (free_append is_of_readings s front (act.Interrupts (unique_in frame) original ∷ [])
       (calm_free is_of_readings readings_within s front refl)
       (interrupt_free (s ++ front) (unique_in frame) original, tt))) (λ u. ap (list_any (reads_under u)) same)
+  does_well (comes_again high other o m same) = let low = right.low other in absurd (omega (arith, high, low))
   does_well (does_nothing calm) =
       none_reading (calm_free is_of_readings readings_within s acts calm) (λ u. calm_none u acts calm)
 
   sent_well : AreRequestActs k frame acts → SentWell frame s acts
-  sent_well does = does_well (request_does k frame acts
-      (λ other. right.low (not_interrupt (opcode_in frame) other)) does)
+  sent_well does = does_well (request_does k frame acts does)
 
 unjudged_well : (frame : List ℕ) (s : Session) (acts : List Act) → acts ≡ [] → SentWell frame s acts
 unjudged_well frame s acts none = record {
@@ -157,6 +157,20 @@ unjudged_well frame s acts none = record {
 }
 
 -- ---- a step
+
+pub written_is_calm : (k : Known) (s : Session) (b : Bor (List ℕ)) (t : Taken) (acts : List Act) (later : Known)
+    → AreActs k s (said.Written b t) acts later → AreCalm acts
+written_is_calm k s b t acts later is = by_judged (AreCalm acts) k.unjudged (AreReadActs k s (said.Written b t) acts later)
+    (λ why. (acts ≡ []) × (later ≡ k)) (λ judged does. written_calm k b.now t s acts later does)
+    (λ why unjudged none. calm_of none.0) is
+  where
+    calm_of : acts ≡ [] → AreCalm acts
+    calm_of none = subst AreCalm (sym none) refl
+
+pub ended_calm : (k : Known) (s : Session) (acts : List Act) (later : Known) → AreActs k s said.Ended acts later → AreCalm acts
+ended_calm k s acts later is = by_judged (AreCalm acts) k.unjudged (AreReadActs k s said.Ended acts later)
+    (λ why. (acts ≡ []) × (later ≡ k)) (λ judged does. subst AreCalm (sym does.0) refl)
+    (λ why unjudged none. subst AreCalm (sym none.0) refl) is
 
 -- What is so between the steps.
 pub record Runs (mounts : ℕ) (d : Driven) (s : Session) : Type 0 where
@@ -171,19 +185,6 @@ module _ (mounts : ℕ) (new : Driven) (k : Known) (s : Session) (free : AreFree
     free = free_append is_of_readings [] s acts free (calm_free is_of_readings readings_within s acts calm);
   }
 
-  written_on : (b : Bor (List ℕ)) (t : Taken) (acts : List Act) (later : Known) → AreActs k s (said.Written b t) acts later → AreCalm acts
-  written_on b t acts later is = by_judged (AreCalm acts) k.unjudged (AreReadActs k s (said.Written b t) acts later)
-      (λ why. (acts ≡ []) × (later ≡ k)) (λ judged does. written_calm k b.now t s acts later does)
-      (λ why unjudged none. calm_of none.0) is
-    where
-      calm_of : acts ≡ [] → AreCalm acts
-      calm_of none = subst AreCalm (sym none) refl
-
-  ended_on : (acts : List Act) (later : Known) → AreActs k s said.Ended acts later → AreCalm acts
-  ended_on acts later is = by_judged (AreCalm acts) k.unjudged (AreReadActs k s said.Ended acts later)
-      (λ why. (acts ≡ []) × (later ≡ k)) (λ judged does. subst AreCalm (sym does.0) refl)
-      (λ why unjudged none. subst AreCalm (sym none.0) refl) is
-
   request_on : (b : Bor (List ℕ)) (frame : List ℕ) → b.now ≡ frame → (acts : List Act) (later : Known) → SentRight frame s
       → AreActs k s (said.Request b) acts later → SentWell frame s acts
   request_on b frame same acts later right is = by_judged (SentWell frame s acts) k.unjudged
@@ -194,12 +195,12 @@ module _ (mounts : ℕ) (new : Driven) (k : Known) (s : Session) (free : AreFree
   quiet_on : (log : List Transfer) → IsQuiet log → Keeps mounts new s → (ts : List Said) → AreSaid log ts
       → (later : Known) (all : Session) → Lead k s ts later all → Runs mounts new all
   quiet_on log nothing keeps [] is later all leads = subst (Runs mounts new) (sym leads.1) (record { keeps = keeps; free = free })
-  quiet_on log (receives frame) keeps (said.Written b t ∷ []) is later all (acts, then, are, leads) =
-      subst (Runs mounts new) (sym leads.1) (calm_on acts (written_on b t acts then are) keeps)
-  quiet_on log (cut_off frame end) keeps (said.Ended ∷ []) is later all (acts, then, are, leads) =
-      subst (Runs mounts new) (sym leads.1) (calm_on acts (ended_on acts then are) keeps)
-  quiet_on log (ends end) keeps (said.Ended ∷ []) is later all (acts, then, are, leads) =
-      subst (Runs mounts new) (sym leads.1) (calm_on acts (ended_on acts then are) keeps)
+  quiet_on log (receives frame) keeps (said.Written b t ∷ []) is later all (acts, known, are, leads) =
+      subst (Runs mounts new) (sym leads.1) (calm_on acts (written_is_calm k s b t acts known are) keeps)
+  quiet_on log (cut_off frame end) keeps (said.Ended ∷ []) is later all (acts, known, are, leads) =
+      subst (Runs mounts new) (sym leads.1) (calm_on acts (ended_calm k s acts known are) keeps)
+  quiet_on log (ends end) keeps (said.Ended ∷ []) is later all (acts, known, are, leads) =
+      subst (Runs mounts new) (sym leads.1) (calm_on acts (ended_calm k s acts known are) keeps)
   quiet_on log nothing keeps ts is later all leads = absurd search
   quiet_on log (receives frame) keeps ts is later all leads = absurd search
   quiet_on log (cut_off frame end) keeps ts is later all leads = absurd search
@@ -208,8 +209,8 @@ module _ (mounts : ℕ) (new : Driven) (k : Known) (s : Session) (free : AreFree
   goes_on : (log : List Transfer) → Goes mounts s new log → (ts : List Said) → AreSaid log ts
       → (later : Known) (all : Session) → Lead k s ts later all → Runs mounts new all
   goes_on log (quiet log' still keeps) ts is later all leads = quiet_on log' still keeps ts is later all leads
-  goes_on log (sends frame result right after) (said.Request b ∷ []) is later all (acts, then, are, leads) =
-      let well = request_on b frame is.0 acts then right are in
+  goes_on log (sends frame result right after) (said.Request b ∷ []) is later all (acts, known, are, leads) =
+      let well = request_on b frame is.0 acts known right are in
       subst (Runs mounts new) (sym leads.1) (record {
         keeps = after (s ++ acts) well.adds;
         free = free_append is_of_readings [] s acts free well.free;
@@ -258,22 +259,22 @@ module _ (asks : Bool) (k : Known) (s : Session) (free : AreFree is_of_readings 
       by S A (suc n) e stays mounts on = subst (λ (n : ℕ). Runs n end A) (omega (arith, e, one))
           (on 1 (mounts (omega (arith, e, one)) (omega (arith, e, one))))
 
-readings_never : (group : Fault → Bool) → ((f : Fault) → group f ≡ true → is_of_readings f ≡ true) → NeverAccused group
-readings_never group within asks log new run one few s (ts, is, k, (acts, then, are, leads)) place f has of =
+readings_never : (group : Fault → Bool) → ((f : Fault) → group f ≡ true → is_of_readings f ≡ true) → NeverAccusedInOneMount group
+readings_never group within asks log new run one few s (ts, is, k, (acts, known, are, leads)) place f has of =
     let first : acts ≡ act.SeveralReaders ∷ [] = are.0 in
-    let runs = run_on asks then acts (subst (AreFree is_of_readings []) (sym first)
+    let runs = run_on asks known acts (subst (AreFree is_of_readings []) (sym first)
     (calm_free is_of_readings readings_within [] (act.SeveralReaders ∷ []) refl))
     (λ u. ap (λ (l : List Act). was_read l u) first) log new run one few ts is k s leads in
     never_at is_of_readings [] s runs.free place f has (within f of)
 
-pub odd_numbers_never : NeverAccused is_of_odd_numbers
+pub odd_numbers_never : NeverAccusedInOneMount is_of_odd_numbers
 odd_numbers_never = readings_never is_of_odd_numbers within
   where
     within : (f : Fault) → is_of_odd_numbers f ≡ true → is_of_readings f ≡ true
     within fault.OddNumber is = refl
     within f is = absurd (false≢true is)
 
-pub used_numbers_never : NeverAccused is_of_used_numbers
+pub used_numbers_never : NeverAccusedInOneMount is_of_used_numbers
 used_numbers_never = readings_never is_of_used_numbers within
   where
     within : (f : Fault) → is_of_used_numbers f ≡ true → is_of_readings f ≡ true

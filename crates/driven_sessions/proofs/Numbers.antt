@@ -22,11 +22,11 @@ Each P [] = Unit {0}
 Each P (e ∷ es) = P e × Each P es
 
 module _ (P : Entry → Type 0) where
-  each_push : (es : List Entry) (e : Entry) → Each P es → P e → Each P (es ++ e ∷ [])
+  pub each_push : (es : List Entry) (e : Entry) → Each P es → P e → Each P (es ++ e ∷ [])
   each_push [] e all is = (is, tt)
   each_push (x ∷ es) e all is = (all.0, each_push es e all.1 is)
 
-  each_removed : (test : ℕ → Bool) (es : List Entry) → Each P es → Each P (remove_entry test es)
+  pub each_removed : (test : ℕ → Bool) (es : List Entry) → Each P es → Each P (remove_entry test es)
   each_removed test [] all = tt
   each_removed test (e ∷ es) all = by (test e.0) (each_removed test es all.1)
     where
@@ -34,7 +34,7 @@ module _ (P : Entry → Type 0) where
       by true rest = all.1
       by false rest = (all.0, rest)
 
-  each_stable : ((e : Entry) → Stable (P e)) → (es : List Entry) → Stable (Each P es)
+  pub each_stable : ((e : Entry) → Stable (P e)) → (es : List Entry) → Stable (Each P es)
   each_stable one [] s = tt
   each_stable one (e ∷ es) s =
       (one e (λ no. s (λ all. no all.0)), each_stable one es (λ no. s (λ all. no all.1)))

@@ -37,7 +37,7 @@ interrupts_in None = false
 interrupts_in (Some body) = is_interrupt body
 
 -- A request that was queued is no INTERRUPT.
-queued : (k : Kernel) (p : Purpose) (body : RequestBody) → body_of k p ≡ Some body → is_interrupt body ≡ false
+pub queued : (k : Kernel) (p : Purpose) (body : RequestBody) → body_of k p ≡ Some body → is_interrupt body ≡ false
 queued k purpose.Init body is = sym (ap interrupts_in is)
 queued k (purpose.Release opened) body is = sym (ap interrupts_in is)
 queued k (purpose.Call call) body is = by (get k.vfs.calls call) is
@@ -46,7 +46,7 @@ queued k (purpose.Call call) body is = by (get k.vfs.calls call) is
     by None is = sym (ap interrupts_in is)
     by (Some state) is = sym (ap interrupts_in is)
 
-forgetting : (fs : List Forget) → is_interrupt (forget_body fs) ≡ false
+pub forgetting : (fs : List Forget) → is_interrupt (forget_body fs) ≡ false
 forgetting [] = refl
 forgetting (f ∷ []) = refl
 forgetting (f ∷ g ∷ fs) = refl

@@ -31,7 +31,16 @@ IsSessionOf log s = (ts : List Said) × AreSaid log ts × (k : Known) × IsSessi
 abbrev pub ShowsNone : (Fault → Bool) → Session → Type 0
 ShowsNone group s = (place : ℕ) (f : Fault) → HasFaultAt [] s place f → group f ≡ true → ⊥
 
+-- What went over a device shows none of a group of faults: so does the session that it is.
+abbrev pub IsFreeOf : (Fault → Bool) → List Transfer → Type 0
+IsFreeOf group log = (s : Session) → IsSessionOf log s → ShowsNone group s
+
 -- A kernel is never accused of a group of faults, whatever server it drives, over any device.
 abbrev pub NeverAccused : (Fault → Bool) → Type 0
-NeverAccused group = (asks : Bool) (log : List Transfer) (new : Driven) (run : Drives (first_driven asks) log new)
-    → IsOneMount run → HasNumbers run → (s : Session) → IsSessionOf log s → ShowsNone group s
+NeverAccused group = (asks : Bool) (log : List Transfer) (new : Driven) → Drives (first_driven asks) log new
+    → IsFreeOf group log
+
+-- The same of a kernel that mounts once, whose numbers are not used up.
+abbrev pub NeverAccusedInOneMount : (Fault → Bool) → Type 0
+NeverAccusedInOneMount group = (asks : Bool) (log : List Transfer) (new : Driven) (run : Drives (first_driven asks) log new)
+    → IsOneMount run → HasNumbers run → IsFreeOf group log

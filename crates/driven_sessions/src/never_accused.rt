@@ -1,15 +1,20 @@
-//! The groups of faults of which the kernel is never accused, in one mount.
+//! The groups of faults of which the kernel is never accused.
 
-ghost use Rattle.driven_sessions.specs.Driven.{NeverAccused};
-ghost use Rattle.driven_sessions.specs.Groups.{is_of_odd_numbers, is_of_used_numbers};
+ghost use Rattle.driven_sessions.specs.Driven.{NeverAccused, NeverAccusedInOneMount};
+ghost use Rattle.driven_sessions.specs.Groups.{is_of_interrupt_numbers, is_of_odd_numbers, is_of_used_numbers};
 
-/// Each request that is no INTERRUPT has an even number.
-pub fn numbers_are_even()
-    ensures { NeverAccused is_of_odd_numbers }
+/// Each INTERRUPT has its request's number with the lowest bit set, however often the kernel mounts.
+pub fn interrupts_have_their_numbers()
+    ensures { NeverAccused is_of_interrupt_numbers }
 {}
 
-/// No request has the number of another: those of the kernel rise and stay below 2^62, where those of OPENDIR and
-/// RELEASEDIR begin.
+/// Each request that is no INTERRUPT has an even number, in one mount.
+pub fn numbers_are_even()
+    ensures { NeverAccusedInOneMount is_of_odd_numbers }
+{}
+
+/// No request has the number of another, in one mount: those of the kernel rise and stay below 2^62, where those of OPENDIR
+/// and RELEASEDIR begin.
 pub fn numbers_are_used_once()
-    ensures { NeverAccused is_of_used_numbers }
+    ensures { NeverAccusedInOneMount is_of_used_numbers }
 {}

@@ -1,0 +1,134 @@
+-- What each frame of a run is by itself: INTERRUPTs have their requests' numbers.
+use Rattle.std.proofs.Common.{◌≡◌, ℕ, ◌+◌, ◌-◌, ◌%◌, Bool, true, true≢false, List, [], ◌∷◌, ◌++◌, Some, None, nat_eq, refl, ap, sym, subst, ◌∙◌, arith}
+use Rattle.std.proofs.lemmas.Bool.{false≢true}
+use Rattle.fk_fields.specs.Fields.{number_at}
+use Rattle.fuse_device.specs.Transfers.{Transfer, received, sent, unsent, stopped}
+use Rattle.fuse_spec.specs.declared.Opened.{Opened}
+use Rattle.fuse_spec.specs.Kernel.Kernel.{Kernel}
+use Rattle.fuse_spec.specs.Kernel.Messages.{Request, RequestBody, interrupt}
+use Rattle.fuse_frames.specs.RequestTies.{SaysRequest}
+use Rattle.fk_kernel.specs.Picks.{IsPicked}
+use Rattle.fk_kernel.specs.declared.pick.Pick.{Pick}
+use Rattle.fk_kernel.specs.declared.pick.Pick.TheVariants.{Interrupt, Forgets, Pending}
+use Rattle.fk_drive.specs.Driving.{Driven, DriveStep, Drives, ReleasesBehind, SendsFrame, Turn, first_driven, alone, reads, sends, opens, is_given, is_not_known, is_refused, is_garbled, sends_opened, answers, waits, sets_aside, writes, ends, releases, releases_none, nothing, next as behind, with_result, at_end}
+use Rattle.fuse_sessions.specs.UnreadRequests.{opcode_in, unique_in}
+use Rattle.driven_sessions.proofs.Evens.{AreEven, Evens, run_evens}
+use Rattle.driven_sessions.proofs.Frames.{HasOwnHead, frame_interrupt, frame_original, frame_unique, is_interrupt, opendir_head, releasedir_head}
+use Rattle.driven_sessions.proofs.Reading.{forgetting, queued}
+use Rattle.driven_sessions.proofs.Spent.{held, none_held, some_request}
+
+-- Each frame that was sent is such.
+abbrev pub AllSent : (List ℕ → Type 0) → List Transfer → Type 0
+AllSent IsSuch [] = Unit {0}
+AllSent IsSuch (sent frame result ∷ log) = IsSuch frame × AllSent IsSuch log
+AllSent IsSuch (received frame ∷ log) = AllSent IsSuch log
+AllSent IsSuch (unsent frame end ∷ log) = AllSent IsSuch log
+AllSent IsSuch (stopped end ∷ log) = AllSent IsSuch log
+
+all_append : (IsSuch : List ℕ → Type 0) (log more : List Transfer) → AllSent IsSuch log → AllSent IsSuch more
+    → AllSent IsSuch (log ++ more)
+all_append IsSuch [] more first last = last
+all_append IsSuch (sent frame result ∷ log) more first last = (first.0, all_append IsSuch log more first.1 last)
+all_append IsSuch (received frame ∷ log) more first last = all_append IsSuch log more first last
+all_append IsSuch (unsent frame end ∷ log) more first last = all_append IsSuch log more first last
+all_append IsSuch (stopped end ∷ log) more first last = all_append IsSuch log more first last
+
+-- An INTERRUPT's number is one above that of its request.
+abbrev pub IsInterruptRight : List ℕ → Type 0
+IsInterruptRight frame = nat_eq (opcode_in frame) 36 ≡ true → unique_in frame ≡ number_at 40 8 frame + 1
+
+-- So it is with what is held.
+abbrev HeldRight : Turn → Type 0
+HeldRight turn = (r : Request) → held turn ≡ Some r → (original : ℕ) → r.body ≡ interrupt original
+    → r.unique ≡ original + 1
+
+picked_right : (k : Kernel) (pick : Pick) (r : Request) → Evens k.queues → IsPicked k pick r → (original : ℕ)
+    → r.body ≡ interrupt original → r.unique ≡ original + 1
+picked_right k Interrupt r evens is original body =
+    let there : original ≡ is.original = ap of (sym body ∙ ap (λ (q : Request). q.body) is.is) in
+    let even : is.original % 2 ≡ 0 = first k.queues.interrupts is.first evens.interrupts in
+    let unique : r.unique ≡ is.original - is.original % 2 + 1 = ap (λ (q : Request). q.unique) is.is in
+    omega (arith, there, even, unique)
+  where
+    of : RequestBody → ℕ
+    of (interrupt n) = n
+    of b = original
+
+    first : (ns : List ℕ) → ns ≡ is.original ∷ is.rest → AreEven ns → is.original % 2 ≡ 0
+    first ns same all = (subst AreEven same all).0
+picked_right k (Forgets count) r evens is original body =
+    absurd (true≢false (sym (ap is_interrupt body) ∙ ap (λ (q : Request). is_interrupt q.body) is.is ∙ forgetting is.forgets))
+picked_right k (Pending place) r evens is original body =
+    absurd (true≢false (sym (ap is_interrupt body) ∙ queued k is.purpose r.body is.body))
+
+-- ---- what a step sends
+
+held_sent : (turn : Turn) (r : Request) → HeldRight turn → held turn ≡ Some r → (frame : List ℕ) → SaysRequest frame r
+    → (log : List Transfer) → SendsFrame frame log → AllSent IsInterruptRight log
+held_sent turn r right holds frame says log (with_result result) = (
+  λ is.
+      let body = frame_original frame r says (sym (frame_interrupt frame r says) ∙ is) in
+      frame_unique frame r says ∙ right r holds (number_at 40 8 frame) body,
+  tt,
+)
+held_sent turn r right holds frame says log (at_end end) = tt
+
+own_sent : (frame : List ℕ) (unique : ℕ) → HasOwnHead frame unique → (log : List Transfer) → SendsFrame frame log
+    → AllSent IsInterruptRight log
+own_sent frame unique head log (with_result result) = (λ is. absurd (false≢true (sym head.0 ∙ is)), tt)
+own_sent frame unique head log (at_end end) = tt
+
+released_sent : (frame : List ℕ) (coming : ℕ) (directories : List (ℕ × Opened)) (log : List Transfer) (later : ℕ)
+    (left : List (ℕ × Opened)) → ReleasesBehind frame coming directories log later left → AllSent IsInterruptRight log
+released_sent frame coming directories log later left
+    (releases head below before after directory there apart bytes is log' went) =
+    own_sent bytes coming (releasedir_head bytes coming directory is below) log went
+released_sent frame coming directories log later left (releases_none none) = tt
+
+abbrev Right : List Transfer → Driven → Type 0
+Right log new = AllSent IsInterruptRight log × HeldRight new.turn
+
+moved : (a b : Turn) → held b ≡ held a → HeldRight a → HeldRight b
+moved a b same right r is = right r (sym same ∙ is)
+
+none_right : (turn : Turn) → held turn ≡ None → HeldRight turn
+none_right turn none r is = absurd (none_held (held turn) r none is)
+
+step_right : (old : Driven) (log : List Transfer) (new : Driven) → DriveStep old log new → Evens old.kernel.queues
+    → HeldRight old.turn → Right log new
+step_right old log new (alone k acts) evens right = (tt, right)
+step_right old log new (reads idles pick may request is) evens right = (
+  tt,
+  λ r same original.
+      subst (λ (q : Request). q.body ≡ interrupt original → q.unique ≡ original + 1) (some_request request r same)
+      (picked_right old.kernel pick request evens is original),
+)
+step_right old log new (sends request turn unlisted frame says log' went) evens right =
+    (held_sent old.turn request right (ap held turn) frame says log went, none_right new.turn refl)
+step_right old log new (opens request turn asks below node lists frame is log' went) evens right =
+    (own_sent frame old.next (opendir_head frame old.next node is below) log went, moved old.turn new.turn (sym (ap held turn)) right)
+step_right old log new (is_given request unique node turn frame fh gives) evens right =
+    (tt, moved old.turn new.turn (sym (ap held turn)) right)
+step_right old log new (is_not_known request unique node turn frame gives) evens right =
+    (tt, moved old.turn new.turn (sym (ap held turn)) right)
+step_right old log new (is_refused request unique node turn frame error other gives) evens right =
+    (tt, moved old.turn new.turn (sym (ap held turn)) right)
+step_right old log new (is_garbled request unique node turn frame head same gives) evens right =
+    (tt, moved old.turn new.turn (sym (ap held turn)) right)
+step_right old log new (sends_opened request fh turn frame says handle log' went) evens right =
+    (held_sent old.turn request right (ap held turn) frame says log went, none_right new.turn refl)
+step_right old log new (answers request error turn bytes written result k taken) evens right =
+    (tt, none_right new.turn refl)
+step_right old log new (waits frame own_one) evens right = (tt, right)
+step_right old log new (sets_aside frame other) evens right = (tt, right)
+step_right old log new (writes frame rest there handed on result k taken log' coming directories release) evens right =
+    (released_sent frame old.next old.directories log coming directories release, right)
+step_right old log new (ends end) evens right = (tt, right)
+
+pub run_right : (asks : Bool) (log : List Transfer) (new : Driven) → Drives (first_driven asks) log new
+    → AllSent IsInterruptRight log × HeldRight new.turn
+run_right asks log new nothing = (tt, none_right new.turn refl)
+run_right asks log new (behind before mid run last end step) =
+    let was = run_right asks before mid run in
+    let now = step_right mid last end step (run_evens asks before mid run) was.1 in
+    (all_append IsInterruptRight before last was.0 now.0, now.1)
