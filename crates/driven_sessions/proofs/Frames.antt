@@ -1,5 +1,5 @@
 -- What the frames that are sent say by their headers.
-use Rattle.std.proofs.Common.{◌≡◌, ℕ, ◌<◌, ◌^◌, Bool, true, false, List, [], ◌∷◌, ◌++◌, Option, Some, None, nat_eq, sym, ◌∙◌, ap, append-nil, arith}
+use Rattle.std.proofs.Common.{◌≡◌, ℕ, ◌<◌, ◌^◌, Bool, true, false, List, [], ◌∷◌, ◌++◌, Option, Some, None, nat_eq, length, refl, sym, ◌∙◌, ap, subst, subst₂, append-nil, arith}
 use Rattle.std.proofs.lemmas.Bool.{false≢true}
 use Rattle.fk_fields.specs.Fields.{Field, number_at, raw, u32, u64, free32, spellings, ReadsAs}
 use Rattle.fk_wire.specs.Opcodes.{code_of, has_node}
@@ -7,7 +7,9 @@ use Rattle.fk_wire.specs.Requests.{RequestContent, nodeid_field, opcode_of, requ
 use Rattle.fk_wire.specs.Requests as wire
 use Rattle.fk_wire.proofs.Frames.{reads_back, spellings-append}
 use Rattle.fuse_spec.specs.declared.Opened.{Opened}
-use Rattle.fuse_spec.specs.Kernel.Messages.{Request, RequestBody, interrupt}
+use Rattle.fk_wire.specs.Pairs.{forget_ones}
+use Rattle.fuse_spec.specs.Kernel.Messages.{Forget, Request, RequestBody, interrupt}
+use Rattle.fuse_spec.specs.Server.Server.{forgets_of}
 use Rattle.fuse_frames.specs.RequestTies.{SaysRequest, body_in}
 use Rattle.fk_drive_frames.specs.OwnRequests.{IsOpendir, IsReleasedir}
 use Rattle.fuse_sessions.specs.UnreadRequests.{opcode_in, unique_in}
@@ -60,6 +62,42 @@ module _ (frame : List ℕ) (request : Request) (says : SaysRequest frame reques
       (has_node (opcode_of says.message.content)) says.message.nodeid (request_body says.message.content) frame
       says.spells.3.1.1.1)
 
+-- What a frame says of forgets: lookups of a node, behind the header, or pairs.
+pub record SaysForgets (AreSuch : List Forget → Type 0) (frame : List ℕ) : Type 0 where
+  pub one : nat_eq (opcode_in frame) 2 ≡ true → AreSuch ((number_at 16 8 frame, number_at 40 8 frame) ∷ [])
+  pub many : nat_eq (opcode_in frame) 42 ≡ true → (ps : List Forget) × (number_at 40 4 frame ≡ length ps)
+      × ReadsAs 48 (forget_ones ps) frame × AreSuch ps
+
+abbrev forgets_in : Option RequestBody → List Forget
+forgets_in None = []
+forgets_in (Some body) = forgets_of body
+
+module _ (AreSuch : List Forget → Type 0) (frame : List ℕ) (request : Request) (says : SaysRequest frame request)
+    (such : AreSuch (forgets_of request.body)) where
+  none_said : (code : ℕ) → opcode_in frame ≡ code → nat_eq code 2 ≡ false → nat_eq code 42 ≡ false → SaysForgets AreSuch frame
+  none_said code is no_one no_many = record {
+    one = λ e. absurd (false≢true (sym no_one ∙ ap (λ (n : ℕ). nat_eq n 2) (sym is) ∙ e));
+    many = λ e. absurd (false≢true (sym no_many ∙ ap (λ (n : ℕ). nat_eq n 42) (sym is) ∙ e));
+  }
+
+  forgets_of_content : (c : RequestContent) → body_in says.message.nodeid c ≡ Some request.body
+      → opcode_in frame ≡ code_of (opcode_of c)
+      → ReadsAs 16 (nodeid_field (has_node (opcode_of c)) says.message.nodeid
+      ∷ free32 0 ∷ free32 0 ∷ free32 0 ∷ free32 0 ∷ request_body c) frame → SaysForgets AreSuch frame
+  forgets_of_content (wire.forget n) is code reads = record {
+    one = λ e. subst₂ (λ (a b : ℕ). AreSuch ((a, b) ∷ [])) (sym reads.0) (sym reads.1.0)
+        (subst AreSuch (sym (ap forgets_in is)) such);
+    many = λ e. absurd (false≢true (ap (λ (k : ℕ). nat_eq k 42) (sym code) ∙ e));
+  }
+  forgets_of_content (wire.batch_forget ps) is code reads = record {
+    one = λ e. absurd (false≢true (ap (λ (k : ℕ). nat_eq k 2) (sym code) ∙ e));
+    many = λ e. (ps, reads.0, reads.1, subst AreSuch (sym (ap forgets_in is)) such);
+  }
+  forgets_of_content c is code reads = none_said (code_of (opcode_of c)) code refl refl
+
+  pub frame_forgets : SaysForgets AreSuch frame
+  frame_forgets = forgets_of_content says.message.content says.says says.spells.3.1.0 says.spells.3.1.1.1
+
 -- ---- frames that are not the kernel's
 
 -- A header whose number fits its field says it, whatever is behind.
@@ -81,9 +119,10 @@ abbrev behind_releasedir : Opened → List Field
 behind_releasedir opened = u64 opened.nodeid ∷ free32 0 ∷ free32 0 ∷ free32 0 ∷ free32 0
     ∷ u64 opened.fh ∷ u32 0x10000 ∷ u32 0 ∷ u64 0 ∷ []
 
--- They are no INTERRUPTs, and have their numbers.
+-- They are no INTERRUPTs and forget nothing, and have their numbers.
 abbrev pub HasOwnHead : List ℕ → ℕ → Type 0
 HasOwnHead bytes unique = (nat_eq (opcode_in bytes) 36 ≡ false) × (unique_in bytes ≡ unique)
+    × (nat_eq (opcode_in bytes) 2 ≡ false) × (nat_eq (opcode_in bytes) 42 ≡ false)
 
 pub opendir_head : (bytes : List ℕ) (unique node : ℕ) → IsOpendir bytes unique node → unique < 2 ^ 63
     → HasOwnHead bytes unique
@@ -91,7 +130,12 @@ opendir_head bytes unique node is low =
     let head = head_says 48 27 unique (spellings (behind_opendir node)) (omega arith) (omega arith) low in
     let parts : bytes ≡ spellings (u32 48 ∷ u32 27 ∷ u64 unique ∷ []) ++ spellings (behind_opendir node) =
     is ∙ spellings-append (u32 48 ∷ u32 27 ∷ u64 unique ∷ []) (behind_opendir node) in
-    (ap (λ (n : ℕ). nat_eq n 36) (ap (number_at 4 4) parts ∙ head.0), ap (number_at 8 8) parts ∙ head.1)
+    let code = ap (number_at 4 4) parts ∙ head.0 in (
+      ap (λ (n : ℕ). nat_eq n 36) code,
+      ap (number_at 8 8) parts ∙ head.1,
+      ap (λ (n : ℕ). nat_eq n 2) code,
+      ap (λ (n : ℕ). nat_eq n 42) code,
+    )
 
 pub releasedir_head : (bytes : List ℕ) (unique : ℕ) (opened : Opened) → IsReleasedir bytes unique opened
     → unique < 2 ^ 63 → HasOwnHead bytes unique
@@ -99,4 +143,9 @@ releasedir_head bytes unique opened is low =
     let head = head_says 64 29 unique (spellings (behind_releasedir opened)) (omega arith) (omega arith) low in
     let parts : bytes ≡ spellings (u32 64 ∷ u32 29 ∷ u64 unique ∷ []) ++ spellings (behind_releasedir opened) =
     is ∙ spellings-append (u32 64 ∷ u32 29 ∷ u64 unique ∷ []) (behind_releasedir opened) in
-    (ap (λ (n : ℕ). nat_eq n 36) (ap (number_at 4 4) parts ∙ head.0), ap (number_at 8 8) parts ∙ head.1)
+    let code = ap (number_at 4 4) parts ∙ head.0 in (
+      ap (λ (n : ℕ). nat_eq n 36) code,
+      ap (number_at 8 8) parts ∙ head.1,
+      ap (λ (n : ℕ). nat_eq n 2) code,
+      ap (λ (n : ℕ). nat_eq n 42) code,
+    )

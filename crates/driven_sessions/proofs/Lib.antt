@@ -11,3 +11,5 @@ mod Never
 mod Evens
 mod Sending
 mod Single
+mod Forgetting
+mod Forgotten

@@ -33,14 +33,85 @@ all_append IsSuch (received frame ∷ log) more first last = all_append IsSuch l
 all_append IsSuch (unsent frame end ∷ log) more first last = all_append IsSuch log more first last
 all_append IsSuch (stopped end ∷ log) more first last = all_append IsSuch log more first last
 
+-- What is held is such, and what is sent, if what is picked is, and what is not the kernel's.
+module _ (IsGood : Request → Type 0) (IsSuch : List ℕ → Type 0) (Fine : Kernel → Type 0)
+    (good : (k : Kernel) (pick : Pick) (r : Request) → Fine k → IsPicked k pick r → IsGood r)
+    (such : (frame : List ℕ) (r : Request) → IsGood r → SaysRequest frame r → IsSuch frame)
+    (own_such : (frame : List ℕ) (unique : ℕ) → HasOwnHead frame unique → IsSuch frame) where
+  abbrev HeldGood : Turn → Type 0
+  HeldGood turn = (r : Request) → held turn ≡ Some r → IsGood r
+
+  held_sent : (turn : Turn) (r : Request) → HeldGood turn → held turn ≡ Some r → (frame : List ℕ) → SaysRequest frame r
+      → (log : List Transfer) → SendsFrame frame log → AllSent IsSuch log
+  held_sent turn r right holds frame says log (with_result result) = (such frame r (right r holds) says, tt)
+  held_sent turn r right holds frame says log (at_end end) = tt
+
+  own_sent : (frame : List ℕ) (unique : ℕ) → HasOwnHead frame unique → (log : List Transfer) → SendsFrame frame log
+      → AllSent IsSuch log
+  own_sent frame unique head log (with_result result) = (own_such frame unique head, tt)
+  own_sent frame unique head log (at_end end) = tt
+
+  released_sent : (frame : List ℕ) (coming : ℕ) (directories : List (ℕ × Opened)) (log : List Transfer) (later : ℕ)
+      (left : List (ℕ × Opened)) → ReleasesBehind frame coming directories log later left → AllSent IsSuch log
+  released_sent frame coming directories log later left
+      (releases head below before after directory there apart bytes is log' went) =
+      own_sent bytes coming (releasedir_head bytes coming directory is below) log went
+  released_sent frame coming directories log later left (releases_none none) = tt
+
+  abbrev Right : List Transfer → Driven → Type 0
+  Right log new = AllSent IsSuch log × HeldGood new.turn
+
+  moved : (a b : Turn) → held b ≡ held a → HeldGood a → HeldGood b
+  moved a b same right r is = right r (sym same ∙ is)
+
+  none_right : (turn : Turn) → held turn ≡ None → HeldGood turn
+  none_right turn none r is = absurd (none_held (held turn) r none is)
+
+  step_right : (old : Driven) (log : List Transfer) (new : Driven) → DriveStep old log new → Fine old.kernel
+      → HeldGood old.turn → Right log new
+  step_right old log new (alone k acts) fine right = (tt, right)
+  step_right old log new (reads idles pick may request is) fine right =
+      (tt, λ r same. subst IsGood (some_request request r same) (good old.kernel pick request fine is))
+  step_right old log new (sends request turn unlisted frame says log' went) fine right =
+      (held_sent old.turn request right (ap held turn) frame says log went, none_right new.turn refl)
+  step_right old log new (opens request turn asks below node lists frame is log' went) fine right =
+      (own_sent frame old.next (opendir_head frame old.next node is below) log went, moved old.turn new.turn (sym (ap held turn)) right)
+  step_right old log new (is_given request unique node turn frame fh gives) fine right =
+      (tt, moved old.turn new.turn (sym (ap held turn)) right)
+  step_right old log new (is_not_known request unique node turn frame gives) fine right =
+      (tt, moved old.turn new.turn (sym (ap held turn)) right)
+  step_right old log new (is_refused request unique node turn frame error other gives) fine right =
+      (tt, moved old.turn new.turn (sym (ap held turn)) right)
+  step_right old log new (is_garbled request unique node turn frame head same gives) fine right =
+      (tt, moved old.turn new.turn (sym (ap held turn)) right)
+  step_right old log new (sends_opened request fh turn frame says handle log' went) fine right =
+      (held_sent old.turn request right (ap held turn) frame says log went, none_right new.turn refl)
+  step_right old log new (answers request error turn bytes written result k taken) fine right =
+      (tt, none_right new.turn refl)
+  step_right old log new (waits frame own_one) fine right = (tt, right)
+  step_right old log new (sets_aside frame other) fine right = (tt, right)
+  step_right old log new (writes frame rest there handed on result k taken log' coming directories release) fine right =
+      (released_sent frame old.next old.directories log coming directories release, right)
+  step_right old log new (ends end) fine right = (tt, right)
+
+  module _ (asks : Bool)
+      (fine : (log : List Transfer) (new : Driven) → Drives (first_driven asks) log new → Fine new.kernel) where
+    pub run_sends : (log : List Transfer) (new : Driven) → Drives (first_driven asks) log new
+        → AllSent IsSuch log × HeldGood new.turn
+    run_sends log new nothing = (tt, none_right new.turn refl)
+    run_sends log new (behind before mid run last end step) =
+        let was = run_sends before mid run in
+        let now = step_right mid last end step (fine before mid run) was.1 in
+        (all_append IsSuch before last was.0 now.0, now.1)
+
+-- ---- INTERRUPTs
+
 -- An INTERRUPT's number is one above that of its request.
 abbrev pub IsInterruptRight : List ℕ → Type 0
 IsInterruptRight frame = nat_eq (opcode_in frame) 36 ≡ true → unique_in frame ≡ number_at 40 8 frame + 1
 
--- So it is with what is held.
-abbrev HeldRight : Turn → Type 0
-HeldRight turn = (r : Request) → held turn ≡ Some r → (original : ℕ) → r.body ≡ interrupt original
-    → r.unique ≡ original + 1
+abbrev IsRight : Request → Type 0
+IsRight r = (original : ℕ) → r.body ≡ interrupt original → r.unique ≡ original + 1
 
 picked_right : (k : Kernel) (pick : Pick) (r : Request) → Evens k.queues → IsPicked k pick r → (original : ℕ)
     → r.body ≡ interrupt original → r.unique ≡ original + 1
@@ -61,74 +132,13 @@ picked_right k (Forgets count) r evens is original body =
 picked_right k (Pending place) r evens is original body =
     absurd (true≢false (sym (ap is_interrupt body) ∙ queued k is.purpose r.body is.body))
 
--- ---- what a step sends
-
-held_sent : (turn : Turn) (r : Request) → HeldRight turn → held turn ≡ Some r → (frame : List ℕ) → SaysRequest frame r
-    → (log : List Transfer) → SendsFrame frame log → AllSent IsInterruptRight log
-held_sent turn r right holds frame says log (with_result result) = (
-  λ is.
-      let body = frame_original frame r says (sym (frame_interrupt frame r says) ∙ is) in
-      frame_unique frame r says ∙ right r holds (number_at 40 8 frame) body,
-  tt,
-)
-held_sent turn r right holds frame says log (at_end end) = tt
-
-own_sent : (frame : List ℕ) (unique : ℕ) → HasOwnHead frame unique → (log : List Transfer) → SendsFrame frame log
-    → AllSent IsInterruptRight log
-own_sent frame unique head log (with_result result) = (λ is. absurd (false≢true (sym head.0 ∙ is)), tt)
-own_sent frame unique head log (at_end end) = tt
-
-released_sent : (frame : List ℕ) (coming : ℕ) (directories : List (ℕ × Opened)) (log : List Transfer) (later : ℕ)
-    (left : List (ℕ × Opened)) → ReleasesBehind frame coming directories log later left → AllSent IsInterruptRight log
-released_sent frame coming directories log later left
-    (releases head below before after directory there apart bytes is log' went) =
-    own_sent bytes coming (releasedir_head bytes coming directory is below) log went
-released_sent frame coming directories log later left (releases_none none) = tt
-
-abbrev Right : List Transfer → Driven → Type 0
-Right log new = AllSent IsInterruptRight log × HeldRight new.turn
-
-moved : (a b : Turn) → held b ≡ held a → HeldRight a → HeldRight b
-moved a b same right r is = right r (sym same ∙ is)
-
-none_right : (turn : Turn) → held turn ≡ None → HeldRight turn
-none_right turn none r is = absurd (none_held (held turn) r none is)
-
-step_right : (old : Driven) (log : List Transfer) (new : Driven) → DriveStep old log new → Evens old.kernel.queues
-    → HeldRight old.turn → Right log new
-step_right old log new (alone k acts) evens right = (tt, right)
-step_right old log new (reads idles pick may request is) evens right = (
-  tt,
-  λ r same original.
-      subst (λ (q : Request). q.body ≡ interrupt original → q.unique ≡ original + 1) (some_request request r same)
-      (picked_right old.kernel pick request evens is original),
-)
-step_right old log new (sends request turn unlisted frame says log' went) evens right =
-    (held_sent old.turn request right (ap held turn) frame says log went, none_right new.turn refl)
-step_right old log new (opens request turn asks below node lists frame is log' went) evens right =
-    (own_sent frame old.next (opendir_head frame old.next node is below) log went, moved old.turn new.turn (sym (ap held turn)) right)
-step_right old log new (is_given request unique node turn frame fh gives) evens right =
-    (tt, moved old.turn new.turn (sym (ap held turn)) right)
-step_right old log new (is_not_known request unique node turn frame gives) evens right =
-    (tt, moved old.turn new.turn (sym (ap held turn)) right)
-step_right old log new (is_refused request unique node turn frame error other gives) evens right =
-    (tt, moved old.turn new.turn (sym (ap held turn)) right)
-step_right old log new (is_garbled request unique node turn frame head same gives) evens right =
-    (tt, moved old.turn new.turn (sym (ap held turn)) right)
-step_right old log new (sends_opened request fh turn frame says handle log' went) evens right =
-    (held_sent old.turn request right (ap held turn) frame says log went, none_right new.turn refl)
-step_right old log new (answers request error turn bytes written result k taken) evens right =
-    (tt, none_right new.turn refl)
-step_right old log new (waits frame own_one) evens right = (tt, right)
-step_right old log new (sets_aside frame other) evens right = (tt, right)
-step_right old log new (writes frame rest there handed on result k taken log' coming directories release) evens right =
-    (released_sent frame old.next old.directories log coming directories release, right)
-step_right old log new (ends end) evens right = (tt, right)
+interrupt_sent : (frame : List ℕ) (r : Request) → ((original : ℕ) → r.body ≡ interrupt original → r.unique ≡ original + 1)
+    → SaysRequest frame r → IsInterruptRight frame
+interrupt_sent frame r right says is =
+    let body = frame_original frame r says (sym (frame_interrupt frame r says) ∙ is) in
+    frame_unique frame r says ∙ right (number_at 40 8 frame) body
 
 pub run_right : (asks : Bool) (log : List Transfer) (new : Driven) → Drives (first_driven asks) log new
-    → AllSent IsInterruptRight log × HeldRight new.turn
-run_right asks log new nothing = (tt, none_right new.turn refl)
-run_right asks log new (behind before mid run last end step) =
-    let was = run_right asks before mid run in
-    let now = step_right mid last end step (run_evens asks before mid run) was.1 in
-    (all_append IsInterruptRight before last was.0 now.0, now.1)
+    → AllSent IsInterruptRight log
+run_right asks log new run = (run_sends IsRight IsInterruptRight (λ k. Evens k.queues) picked_right interrupt_sent
+    (λ frame unique head is. absurd (false≢true (sym head.0 ∙ is))) asks (run_evens asks) log new run).0

@@ -41,7 +41,7 @@ unfolding number_at
 first_number bytes = little_from-take 0 8 8 (drop 40 bytes) (omega arith)
 
 -- The first eight bytes behind the header are a number.
-struct_number : (bytes fixed : List ℕ) → 48 ≤ length bytes → take 8 (drop 40 bytes) ≡ fixed
+pub struct_number : (bytes fixed : List ℕ) → 48 ≤ length bytes → take 8 (drop 40 bytes) ≡ fixed
     → number_of (number_in (places_at op.Interrupt).interrupted fixed) ≡ number_at 40 8 bytes
 struct_number bytes fixed long same = by (nat_le 8 (length fixed)) whole
   where
@@ -134,7 +134,7 @@ right_free s u o right fault.InterruptOfNothing b is = cc
 right_free s u o right fault.InterruptTooOften b is = cc
 right_free s u o right f b is = b
 
-abbrev front : Opcode → List Act
+abbrev pub front : Opcode → List Act
 front o = act.Arrives ∷ act.Begins o ∷ []
 
 abbrev group : Fault → Bool
@@ -178,4 +178,4 @@ interrupts_shown agreed frame s acts right (nothing calm) = calm_free is_of_inte
 
 pub interrupt_numbers_never : NeverAccused is_of_interrupt_numbers
 interrupt_numbers_never asks log new run =
-    single_free is_of_interrupt_numbers interrupts_within IsInterruptRight interrupts_shown log (run_right asks log new run).0
+    single_free is_of_interrupt_numbers interrupts_within IsInterruptRight interrupts_shown log (run_right asks log new run)

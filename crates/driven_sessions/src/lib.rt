@@ -7,4 +7,6 @@
 
 mod never_accused;
 
-pub use never_accused::{interrupts_have_their_numbers, numbers_are_even, numbers_are_used_once};
+pub use never_accused::{
+    forgets_are_of_lookups, interrupts_have_their_numbers, numbers_are_even, numbers_are_used_once,
+};

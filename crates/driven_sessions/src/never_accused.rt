@@ -1,7 +1,12 @@
 //! The groups of faults of which the kernel is never accused.
 
 ghost use Rattle.driven_sessions.specs.Driven.{NeverAccused, NeverAccusedInOneMount};
-ghost use Rattle.driven_sessions.specs.Groups.{is_of_interrupt_numbers, is_of_odd_numbers, is_of_used_numbers};
+ghost use Rattle.driven_sessions.specs.Groups.{is_of_empty_forgets, is_of_interrupt_numbers, is_of_odd_numbers, is_of_used_numbers};
+
+/// Each FORGET and BATCH_FORGET is of lookups, and of no root, however often the kernel mounts.
+pub fn forgets_are_of_lookups()
+    ensures { NeverAccused is_of_empty_forgets }
+{}
 
 /// Each INTERRUPT has its request's number with the lowest bit set, however often the kernel mounts.
 pub fn interrupts_have_their_numbers()
