@@ -41,7 +41,7 @@ use Rattle.driven_sessions.specs.Groups.{is_of_empty_forgets}
 use Rattle.driven_sessions.proofs.Calm.{is_of_numbers}
 use Rattle.driven_sessions.proofs.Doing.{comes_again, forgets_many, forgets_one, interrupts, nothing, reads}
 use Rattle.driven_sessions.proofs.Forgetting.{AreForgets, Forgetting, forgets_taken, run_forgetting}
-use Rattle.driven_sessions.proofs.Frames.{SaysForgets, frame_forgets}
+use Rattle.driven_sessions.proofs.Frames.{SaysForgets, frame_forgets, own_head}
 use Rattle.driven_sessions.proofs.Leading.{AreFree, calm_free, free_append}
 use Rattle.driven_sessions.proofs.Sending.{run_sends}
 use Rattle.driven_sessions.proofs.Single.{ShowsNoneBy, front, single_free, struct_number}
@@ -228,4 +228,4 @@ empty_forgets_never asks log new run =
     single_free is_of_empty_forgets forgets_within (SaysForgets AreForgets) forgets_shown log
     (run_sends IsGood (SaysForgets AreForgets) Forgetting picked_good
     (λ frame r good says. frame_forgets AreForgets frame r says good)
-    (λ frame unique head. own_none frame head.2 head.3) asks (run_forgetting asks) log new run).0
+    (λ frame unique low own. let head = own_head frame unique low own in own_none frame head.2 head.3) asks (run_forgetting asks) log new run).0

@@ -1,5 +1,5 @@
 -- What the frames that are sent say by their headers.
-use Rattle.std.proofs.Common.{◌≡◌, ℕ, ◌<◌, ◌^◌, Bool, true, false, List, [], ◌∷◌, ◌++◌, Option, Some, None, nat_eq, length, refl, sym, ◌∙◌, ap, subst, subst₂, append-nil, arith}
+use Rattle.std.proofs.Common.{◌≡◌, ◌⊎◌, inl, inr, ℕ, ◌<◌, ◌^◌, Bool, true, false, List, [], ◌∷◌, ◌++◌, Option, Some, None, nat_eq, length, refl, sym, ◌∙◌, ap, subst, subst₂, append-nil, arith}
 use Rattle.std.proofs.lemmas.Bool.{false≢true}
 use Rattle.fk_fields.specs.Fields.{Field, number_at, raw, u32, u64, free32, spellings, ReadsAs}
 use Rattle.fk_wire.specs.Opcodes.{code_of, has_node}
@@ -104,13 +104,14 @@ module _ (AreSuch : List Forget → Type 0) (frame : List ℕ) (request : Reques
 head_says : (len code unique : ℕ) (rest : List ℕ) → len < 256 ^ 4 → code < 256 ^ 4 → unique < 2 ^ 63
     → (number_at 4 4 (spellings (u32 len ∷ u32 code ∷ u64 unique ∷ []) ++ rest) ≡ code)
     × (number_at 8 8 (spellings (u32 len ∷ u32 code ∷ u64 unique ∷ []) ++ rest) ≡ unique)
+    × (number_at 0 4 (spellings (u32 len ∷ u32 code ∷ u64 unique ∷ []) ++ rest) ≡ len)
 head_says len code unique rest short known low =
     let fields : List Field = u32 len ∷ u32 code ∷ u64 unique ∷ raw rest ∷ [] in
     let reads : ReadsAs 0 fields (spellings fields) = reads_back fields [] (short, (known, (omega (arith, low), tt))) tt in
     let same : spellings fields ≡ spellings (u32 len ∷ u32 code ∷ u64 unique ∷ []) ++ rest =
     spellings-append (u32 len ∷ u32 code ∷ u64 unique ∷ []) (raw rest ∷ [])
     ∙ ap (λ (l : List ℕ). spellings (u32 len ∷ u32 code ∷ u64 unique ∷ []) ++ l) (append-nil rest) in
-    (ap (number_at 4 4) (sym same) ∙ reads.1.0, ap (number_at 8 8) (sym same) ∙ reads.1.1.0)
+    (ap (number_at 4 4) (sym same) ∙ reads.1.0, ap (number_at 8 8) (sym same) ∙ reads.1.1.0, ap (number_at 0 4) (sym same) ∙ reads.0)
 
 abbrev behind_opendir : ℕ → List Field
 behind_opendir node = u64 node ∷ free32 0 ∷ free32 0 ∷ free32 0 ∷ free32 0 ∷ u32 0x10000 ∷ u32 0 ∷ []
@@ -149,3 +150,28 @@ releasedir_head bytes unique opened is low =
       ap (λ (n : ℕ). nat_eq n 2) code,
       ap (λ (n : ℕ). nat_eq n 42) code,
     )
+
+-- OPENDIR's frame, or RELEASEDIR's.
+abbrev pub IsOwn : List ℕ → ℕ → Type 0
+IsOwn bytes unique = ((node : ℕ) × IsOpendir bytes unique node) ⊎ ((opened : Opened) × IsReleasedir bytes unique opened)
+
+pub own_head : (bytes : List ℕ) (unique : ℕ) → unique < 2 ^ 63 → IsOwn bytes unique → HasOwnHead bytes unique
+own_head bytes unique low (inl (node, is)) = opendir_head bytes unique node is low
+own_head bytes unique low (inr (opened, is)) = releasedir_head bytes unique opened is low
+
+-- What their headers say of their lengths and opcodes.
+pub opendir_starts : (bytes : List ℕ) (unique node : ℕ) → IsOpendir bytes unique node → unique < 2 ^ 63
+    → (number_at 0 4 bytes ≡ 48) × (number_at 4 4 bytes ≡ 27)
+opendir_starts bytes unique node is low =
+    let head = head_says 48 27 unique (spellings (behind_opendir node)) (omega arith) (omega arith) low in
+    let parts : bytes ≡ spellings (u32 48 ∷ u32 27 ∷ u64 unique ∷ []) ++ spellings (behind_opendir node) =
+    is ∙ spellings-append (u32 48 ∷ u32 27 ∷ u64 unique ∷ []) (behind_opendir node) in
+    (ap (number_at 0 4) parts ∙ head.2, ap (number_at 4 4) parts ∙ head.0)
+
+pub releasedir_starts : (bytes : List ℕ) (unique : ℕ) (opened : Opened) → IsReleasedir bytes unique opened
+    → unique < 2 ^ 63 → (number_at 0 4 bytes ≡ 64) × (number_at 4 4 bytes ≡ 29)
+releasedir_starts bytes unique opened is low =
+    let head = head_says 64 29 unique (spellings (behind_releasedir opened)) (omega arith) (omega arith) low in
+    let parts : bytes ≡ spellings (u32 64 ∷ u32 29 ∷ u64 unique ∷ []) ++ spellings (behind_releasedir opened) =
+    is ∙ spellings-append (u32 64 ∷ u32 29 ∷ u64 unique ∷ []) (behind_releasedir opened) in
+    (ap (number_at 0 4) parts ∙ head.2, ap (number_at 4 4) parts ∙ head.0)

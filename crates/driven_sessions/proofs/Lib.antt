@@ -13,3 +13,4 @@ mod Sending
 mod Single
 mod Forgetting
 mod Forgotten
+mod Shapes

@@ -1,5 +1,5 @@
 -- What each frame of a run is by itself: INTERRUPTs have their requests' numbers.
-use Rattle.std.proofs.Common.{◌≡◌, ℕ, ◌+◌, ◌-◌, ◌%◌, Bool, true, true≢false, List, [], ◌∷◌, ◌++◌, Some, None, nat_eq, refl, ap, sym, subst, ◌∙◌, arith}
+use Rattle.std.proofs.Common.{◌≡◌, inl, inr, ◌<◌, ◌^◌, ℕ, ◌+◌, ◌-◌, ◌%◌, Bool, true, true≢false, List, [], ◌∷◌, ◌++◌, Some, None, nat_eq, refl, ap, sym, subst, ◌∙◌, arith}
 use Rattle.std.proofs.lemmas.Bool.{false≢true}
 use Rattle.fk_fields.specs.Fields.{number_at}
 use Rattle.fuse_device.specs.Transfers.{Transfer, received, sent, unsent, stopped}
@@ -12,18 +12,11 @@ use Rattle.fk_kernel.specs.declared.pick.Pick.{Pick}
 use Rattle.fk_kernel.specs.declared.pick.Pick.TheVariants.{Interrupt, Forgets, Pending}
 use Rattle.fk_drive.specs.Driving.{Driven, DriveStep, Drives, ReleasesBehind, SendsFrame, Turn, first_driven, alone, reads, sends, opens, is_given, is_not_known, is_refused, is_garbled, sends_opened, answers, waits, sets_aside, writes, ends, releases, releases_none, nothing, next as behind, with_result, at_end}
 use Rattle.fuse_sessions.specs.UnreadRequests.{opcode_in, unique_in}
+use Rattle.driven_sessions.specs.Transfers.{AllSent}
 use Rattle.driven_sessions.proofs.Evens.{AreEven, Evens, run_evens}
-use Rattle.driven_sessions.proofs.Frames.{HasOwnHead, frame_interrupt, frame_original, frame_unique, is_interrupt, opendir_head, releasedir_head}
+use Rattle.driven_sessions.proofs.Frames.{frame_interrupt, frame_original, frame_unique, is_interrupt, IsOwn, own_head}
 use Rattle.driven_sessions.proofs.Reading.{forgetting, queued}
 use Rattle.driven_sessions.proofs.Spent.{held, none_held, some_request}
-
--- Each frame that was sent is such.
-abbrev pub AllSent : (List ℕ → Type 0) → List Transfer → Type 0
-AllSent IsSuch [] = Unit {0}
-AllSent IsSuch (sent frame result ∷ log) = IsSuch frame × AllSent IsSuch log
-AllSent IsSuch (received frame ∷ log) = AllSent IsSuch log
-AllSent IsSuch (unsent frame end ∷ log) = AllSent IsSuch log
-AllSent IsSuch (stopped end ∷ log) = AllSent IsSuch log
 
 all_append : (IsSuch : List ℕ → Type 0) (log more : List Transfer) → AllSent IsSuch log → AllSent IsSuch more
     → AllSent IsSuch (log ++ more)
@@ -37,7 +30,7 @@ all_append IsSuch (stopped end ∷ log) more first last = all_append IsSuch log 
 module _ (IsGood : Request → Type 0) (IsSuch : List ℕ → Type 0) (Fine : Kernel → Type 0)
     (good : (k : Kernel) (pick : Pick) (r : Request) → Fine k → IsPicked k pick r → IsGood r)
     (such : (frame : List ℕ) (r : Request) → IsGood r → SaysRequest frame r → IsSuch frame)
-    (own_such : (frame : List ℕ) (unique : ℕ) → HasOwnHead frame unique → IsSuch frame) where
+    (own_such : (frame : List ℕ) (unique : ℕ) → unique < 2 ^ 63 → IsOwn frame unique → IsSuch frame) where
   abbrev HeldGood : Turn → Type 0
   HeldGood turn = (r : Request) → held turn ≡ Some r → IsGood r
 
@@ -46,16 +39,16 @@ module _ (IsGood : Request → Type 0) (IsSuch : List ℕ → Type 0) (Fine : Ke
   held_sent turn r right holds frame says log (with_result result) = (such frame r (right r holds) says, tt)
   held_sent turn r right holds frame says log (at_end end) = tt
 
-  own_sent : (frame : List ℕ) (unique : ℕ) → HasOwnHead frame unique → (log : List Transfer) → SendsFrame frame log
+  own_sent : (frame : List ℕ) (unique : ℕ) → unique < 2 ^ 63 → IsOwn frame unique → (log : List Transfer) → SendsFrame frame log
       → AllSent IsSuch log
-  own_sent frame unique head log (with_result result) = (own_such frame unique head, tt)
-  own_sent frame unique head log (at_end end) = tt
+  own_sent frame unique low own log (with_result result) = (own_such frame unique low own, tt)
+  own_sent frame unique low own log (at_end end) = tt
 
   released_sent : (frame : List ℕ) (coming : ℕ) (directories : List (ℕ × Opened)) (log : List Transfer) (later : ℕ)
       (left : List (ℕ × Opened)) → ReleasesBehind frame coming directories log later left → AllSent IsSuch log
   released_sent frame coming directories log later left
       (releases head below before after directory there apart bytes is log' went) =
-      own_sent bytes coming (releasedir_head bytes coming directory is below) log went
+      own_sent bytes coming below (inr (directory, is)) log went
   released_sent frame coming directories log later left (releases_none none) = tt
 
   abbrev Right : List Transfer → Driven → Type 0
@@ -75,7 +68,7 @@ module _ (IsGood : Request → Type 0) (IsSuch : List ℕ → Type 0) (Fine : Ke
   step_right old log new (sends request turn unlisted frame says log' went) fine right =
       (held_sent old.turn request right (ap held turn) frame says log went, none_right new.turn refl)
   step_right old log new (opens request turn asks below node lists frame is log' went) fine right =
-      (own_sent frame old.next (opendir_head frame old.next node is below) log went, moved old.turn new.turn (sym (ap held turn)) right)
+      (own_sent frame old.next below (inl (node, is)) log went, moved old.turn new.turn (sym (ap held turn)) right)
   step_right old log new (is_given request unique node turn frame fh gives) fine right =
       (tt, moved old.turn new.turn (sym (ap held turn)) right)
   step_right old log new (is_not_known request unique node turn frame gives) fine right =
@@ -141,4 +134,4 @@ interrupt_sent frame r right says is =
 pub run_right : (asks : Bool) (log : List Transfer) (new : Driven) → Drives (first_driven asks) log new
     → AllSent IsInterruptRight log
 run_right asks log new run = (run_sends IsRight IsInterruptRight (λ k. Evens k.queues) picked_right interrupt_sent
-    (λ frame unique head is. absurd (false≢true (sym head.0 ∙ is))) asks (run_evens asks) log new run).0
+    (λ frame unique low own is. absurd (false≢true (sym (own_head frame unique low own).0 ∙ is))) asks (run_evens asks) log new run).0

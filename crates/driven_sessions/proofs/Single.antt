@@ -27,12 +27,12 @@ use Rattle.fuse_sessions.specs.Sessions.{Session}
 use Rattle.fuse_sessions.specs.UnreadRequests.{unique_in}
 use Rattle.driven_sessions.specs.Driven.{IsFreeOf, NeverAccused}
 use Rattle.driven_sessions.specs.Groups.{is_of_interrupt_numbers}
-use Rattle.driven_sessions.specs.Transfers.{AreSaid}
+use Rattle.driven_sessions.specs.Transfers.{AllSent, AreSaid}
 use Rattle.driven_sessions.proofs.Calm.{is_of_numbers}
 use Rattle.driven_sessions.proofs.Doing.{Does, comes_again, forgets_many, forgets_one, interrupts, nothing, reads, request_does}
 use Rattle.driven_sessions.proofs.Leading.{AreFree, calm_free, free_append, never_at}
 use Rattle.driven_sessions.proofs.Never.{by_judged, ended_calm, written_is_calm}
-use Rattle.driven_sessions.proofs.Sending.{AllSent, IsInterruptRight, run_right}
+use Rattle.driven_sessions.proofs.Sending.{IsInterruptRight, run_right}
 
 -- ---- what the struct of a request says
 
