@@ -54,6 +54,25 @@ is_calm a = true
 abbrev pub AreCalm : List Act → Type 0
 AreCalm acts = list_all is_calm acts ≡ true
 
+-- What is calm, and is no malformed request.
+abbrev pub is_shown : Act → Bool
+is_shown (act.Faulty fault.MalformedRequest) = false
+is_shown a = is_calm a
+
+abbrev pub AreShown : List Act → Type 0
+AreShown acts = list_all is_shown acts ≡ true
+
+pub shown_calm : (acts : List Act) → AreShown acts → AreCalm acts
+shown_calm [] are = refl
+shown_calm (a ∷ acts) are =
+    let both = and_parts (is_shown a) (list_all is_shown acts) are in
+    and_from (is_calm a) (list_all is_calm acts) (by a both.0) (shown_calm acts both.1)
+  where
+    by : (a : Act) → is_shown a ≡ true → is_calm a ≡ true
+    by (act.Faulty fault.MalformedRequest) is = cc
+    by (act.Faulty f) is = is
+    by a is = is
+
 -- ---- no calm act shows one
 
 arrives : (s : Session) (f : Fault) → BreaksArrival s f → is_of_numbers f ≡ true → ⊥
@@ -178,125 +197,128 @@ pub by_bool : (b : Bool) (Goal P Q : Type 0) → (b ≡ true → P → Goal) →
 by_bool true Goal P Q first second is = first refl is
 by_bool false Goal P Q first second is = second refl is
 
-kind_calm : (a : Asked) (e : Entry) → AreCalm (kind_acts a e)
-kind_calm a e = either is_calm (is_kind (kind_of e.attributes)) _ _
-    (either is_calm (is_made a e) [] (act.Faulty fault.EntryOfAnotherKind ∷ []) refl refl) refl
+kind_calm : (a : Asked) (e : Entry) → AreShown (kind_acts a e)
+kind_calm a e = either is_shown (is_kind (kind_of e.attributes)) _ _
+    (either is_shown (is_made a e) [] (act.Faulty fault.EntryOfAnotherKind ∷ []) refl refl) refl
 
-entry_calm : (certain : Bool) (o : Opcode) (a : Asked) (e : Entry) → AreCalm (entry_acts certain o a e)
-entry_calm certain o a e = either is_calm (nat_eq e.nodeid 1) (root_acts a) _
-    (either is_calm a.is_dots [] (act.Faulty fault.EntryOfTheRoot ∷ []) refl refl)
-    (either is_calm (nat_eq e.nodeid 0) _ _
-    (either is_calm (may_be_missing o) [] (act.Faulty fault.EntryOfNoNode ∷ []) refl refl)
-    (each_of is_calm (kind_acts a e) _ (kind_calm a e) refl))
+entry_calm : (certain : Bool) (o : Opcode) (a : Asked) (e : Entry) → AreShown (entry_acts certain o a e)
+entry_calm certain o a e = either is_shown (nat_eq e.nodeid 1) (root_acts a) _
+    (either is_shown a.is_dots [] (act.Faulty fault.EntryOfTheRoot ∷ []) refl refl)
+    (either is_shown (nat_eq e.nodeid 0) _ _
+    (either is_shown (may_be_missing o) [] (act.Faulty fault.EntryOfNoNode ∷ []) refl refl)
+    (each_of is_shown (kind_acts a e) _ (kind_calm a e) refl))
 
-records_calm : (certain : Bool) (a : Asked) (rs : List EntryRecordContent) → AreCalm (flat_map (record_acts certain a) rs)
+records_calm : (certain : Bool) (a : Asked) (rs : List EntryRecordContent) → AreShown (flat_map (record_acts certain a) rs)
 records_calm certain a [] = refl
-records_calm certain a (r ∷ rs) = each_of is_calm (record_acts certain a r) _
-    (either is_calm (is_name r.said.name (codes ".") || is_name r.said.name (codes "..")) []
+records_calm certain a (r ∷ rs) = each_of is_shown (record_acts certain a r) _
+    (either is_shown (is_name r.said.name (codes ".") || is_name r.said.name (codes "..")) []
     (entry_acts certain op.Readdirplus a r.entry) refl (entry_calm certain op.Readdirplus a r.entry))
     (records_calm certain a rs)
 
-counting_calm : (o : Opcode) (said most : ℕ) → AreCalm (counting o said most)
-counting_calm op.Write said most = either is_calm (nat_lt most said) (act.Faulty fault.MoreThanWasAsked ∷ []) [] refl refl
+counting_calm : (o : Opcode) (said most : ℕ) → AreShown (counting o said most)
+counting_calm op.Write said most = either is_shown (nat_lt most said) (act.Faulty fault.MoreThanWasAsked ∷ []) [] refl refl
 counting_calm op.CopyFileRange said most =
-    either is_calm (nat_lt most said) (act.Faulty fault.MoreThanWasAsked ∷ []) [] refl refl
+    either is_shown (nat_lt most said) (act.Faulty fault.MoreThanWasAsked ∷ []) [] refl refl
 counting_calm op.CopyFileRange64 said most =
-    either is_calm (nat_lt most said) (act.Faulty fault.MoreThanWasAsked ∷ []) [] refl refl
+    either is_shown (nat_lt most said) (act.Faulty fault.MoreThanWasAsked ∷ []) [] refl refl
 counting_calm o said most = refl
 
-none_calm : (o : Opcode) → AreCalm (opening_none o)
+none_calm : (o : Opcode) → AreShown (opening_none o)
 none_calm op.Open = refl
 none_calm op.Opendir = refl
 none_calm o = refl
 
-failed_calm : (o : Opcode) (node errno : ℕ) → AreCalm (failed_acts o node errno)
-failed_calm o node errno = each_of is_calm (if nat_eq errno 38 then opening_none o else []) (missing_acts o node errno)
-    (either is_calm (nat_eq errno 38) (opening_none o) [] (none_calm o) refl)
-    (either is_calm (is_of_node o && is_missing errno) _ [] refl refl)
+failed_calm : (o : Opcode) (node errno : ℕ) → AreShown (failed_acts o node errno)
+failed_calm o node errno = each_of is_shown (if nat_eq errno 38 then opening_none o else []) (missing_acts o node errno)
+    (either is_shown (nat_eq errno 38) (opening_none o) [] (none_calm o) refl)
+    (either is_shown (is_of_node o && is_missing errno) _ [] refl refl)
 
-opening_calm : (o : Opcode) (node fh : ℕ) → AreCalm (opening o node fh)
+opening_calm : (o : Opcode) (node fh : ℕ) → AreShown (opening o node fh)
 opening_calm op.Open node fh = refl
 opening_calm op.Opendir node fh = refl
 opening_calm op.Create node fh = refl
 opening_calm op.Tmpfile node fh = refl
 opening_calm o node fh = refl
 
-listing_calm : (asked : ℕ) (offsets : List ℕ) → AreCalm (listing_acts asked offsets)
+listing_calm : (asked : ℕ) (offsets : List ℕ) → AreShown (listing_acts asked offsets)
 listing_calm asked offsets =
     let twice : List Act = act.Faulty fault.OffsetGivenTwice ∷ [] in
     let endless : List Act = act.Faulty fault.ListingWithoutEnd ∷ [] in
     let ends : Bool = is_offset asked (last_behind None offsets) in
-    each_of is_calm (if repeats_behind None offsets then twice else []) (if ends then endless else [])
-    (either is_calm (repeats_behind None offsets) twice [] refl refl) (either is_calm ends endless [] refl refl)
+    each_of is_shown (if repeats_behind None offsets then twice else []) (if ends then endless else [])
+    (either is_shown (repeats_behind None offsets) twice [] refl refl) (either is_shown ends endless [] refl refl)
 
-answer_calm : (o : Opcode) (a : Asked) (content : AnswerContent) → AreCalm (answer_acts o a content)
+answer_calm : (o : Opcode) (a : Asked) (content : AnswerContent) → AreShown (answer_acts o a content)
 answer_calm o a (answer.failed errno) = failed_calm o a.nodeid errno
 answer_calm o a (answer.entry e) = entry_calm true o a e
 answer_calm o a (answer.attributes v) = refl
 answer_calm o a (answer.opened file) = opening_calm o a.nodeid file.handle
-answer_calm o a (answer.created e file) = each_of is_calm (entry_acts true o a e) _ (entry_calm true o a e)
-    (either is_calm (is_opened a e) (opening o e.nodeid file.handle) [] (opening_calm o e.nodeid file.handle) refl)
+answer_calm o a (answer.created e file) = each_of is_shown (entry_acts true o a e) _ (entry_calm true o a e)
+    (either is_shown (is_opened a e) (opening o e.nodeid file.handle) [] (opening_calm o e.nodeid file.handle) refl)
 answer_calm o a (answer.number n) = counting_calm o n a.writes
 answer_calm o a (answer.records rs) = listing_calm a.lists_from (map (λ r. r.off) rs)
-answer_calm o a (answer.entry_records rs) = each_of is_calm (flat_map (record_acts true a) rs) _
+answer_calm o a (answer.entry_records rs) = each_of is_shown (flat_map (record_acts true a) rs) _
     (records_calm true a rs) (listing_calm a.lists_from (map (λ r. r.said.off) rs))
 answer_calm o a (answer.init i) = refl
 answer_calm o a other = refl
 
 module _ (k : Known) (bytes : List ℕ) (t : Taken) where
-  replied_calm : (t : Taken) (body : Fit) → AreCalm (replied bytes t body)
-  replied_calm taken.Accepted body = each_of is_calm (eintr_acts bytes taken.Accepted)
+  replied_calm : (t : Taken) (body : Fit) → AreShown (replied bytes t body)
+  replied_calm taken.Accepted body = each_of is_shown (eintr_acts bytes taken.Accepted)
       (act.Takes (number_in bytes) taken.Accepted body ∷ act.Replies (number_in bytes) taken.Accepted ∷ [])
-      (either is_calm (error_in bytes == eintr) (act.Interrupted (number_in bytes) ∷ []) [] refl refl) refl
+      (either is_shown (error_in bytes == eintr) (act.Interrupted (number_in bytes) ∷ []) [] refl refl) refl
   replied_calm taken.NoEntry body = refl
   replied_calm taken.Invalid body = refl
   replied_calm taken.Failed body = refl
 
-  init_calm : (o : Option InitRequest) (content : AnswerContent) → AreCalm (init_acts o content)
-  init_calm (Some r) (answer.init i) = each_of is_calm (of_version i) (of_offered r i)
-      (either is_calm (i.major == 7) [] (act.Faulty fault.InitOfAnotherVersion ∷ []) refl refl)
-      (either is_calm (bit_and i.flags r.flags == i.flags) [] (act.Faulty fault.FlagsThatWereNotOffered ∷ []) refl refl)
+  init_calm : (o : Option InitRequest) (content : AnswerContent) → AreShown (init_acts o content)
+  init_calm (Some r) (answer.init i) = each_of is_shown (of_version i) (of_offered r i)
+      (either is_shown (i.major == 7) [] (act.Faulty fault.InitOfAnotherVersion ∷ []) refl refl)
+      (either is_shown (bit_and i.flags r.flags == i.flags) [] (act.Faulty fault.FlagsThatWereNotOffered ∷ []) refl refl)
   init_calm (Some r) content = refl
   init_calm None content = refl
 
-  said_calm : (o : Opcode) (a : Asked) (t : Taken) (content : AnswerContent) → AreCalm (said_acts k o a t content)
-  said_calm o a taken.Accepted content = each_of is_calm (init_acts k.offered content) (answer_acts o a content)
+  said_calm : (o : Opcode) (a : Asked) (t : Taken) (content : AnswerContent) → AreShown (said_acts k o a t content)
+  said_calm o a taken.Accepted content = each_of is_shown (init_acts k.offered content) (answer_acts o a content)
       (init_calm k.offered content) (answer_calm o a content)
   said_calm o a taken.NoEntry content = refl
   said_calm o a taken.Invalid content = refl
   said_calm o a taken.Failed content = refl
 
-  listed_calm : (o : Opcode) (a : Asked) (t : Taken) → AreCalm (listed_acts o a t bytes)
-  listed_calm op.Readdirplus a taken.Accepted = either is_calm (error_in bytes == 0)
+  listed_calm : (o : Opcode) (a : Asked) (t : Taken) → AreShown (listed_acts o a t bytes)
+  listed_calm op.Readdirplus a taken.Accepted = either is_shown (error_in bytes == 0)
       (flat_map (record_acts false a) (entry_records_from 0 (drop 16 bytes))) []
       (records_calm false a (entry_records_from 0 (drop 16 bytes))) refl
   listed_calm op.Readdirplus a t = refl
   listed_calm o a t = refl
 
   by_calm : (o : Option Opcode) (a : Asked) (acts : List Act) (later : Known) → IsReplyBy k bytes t o a acts later
-      → AreCalm acts
-  by_calm None a acts later is = ap (list_all is_calm) is.0 ∙ replied_calm t fit.MayFit
+      → AreShown acts
+  by_calm None a acts later is = ap (list_all is_shown) is.0 ∙ replied_calm t fit.MayFit
   by_calm (Some o) a acts later (inl (m, is, says)) =
       let body : Fit = fit_in (row_at o).reply a.asked bytes in
-      ap (list_all is_calm) says.0 ∙ each_of is_calm (replied bytes t body) (said_acts k o a t m.answer)
+      ap (list_all is_shown) says.0 ∙ each_of is_shown (replied bytes t body) (said_acts k o a t m.answer)
       (replied_calm t body) (said_calm o a t m.answer)
   by_calm (Some o) a acts later (inr (none, is)) =
       let body : Fit = fit_of_another (fit_in (row_at o).reply a.asked bytes) in
-      ap (list_all is_calm) is.0 ∙ each_of is_calm (replied bytes t body) (listed_acts o a t bytes)
+      ap (list_all is_shown) is.0 ∙ each_of is_shown (replied bytes t body) (listed_acts o a t bytes)
       (replied_calm t body) (listed_calm o a t)
 
-  to_calm : (o : Option Asked) (acts : List Act) (later : Known) → IsReplyTo k bytes t o acts later → AreCalm acts
-  to_calm None acts later is = ap (list_all is_calm) is.0 ∙ replied_calm t fit.MayFit
+  to_calm : (o : Option Asked) (acts : List Act) (later : Known) → IsReplyTo k bytes t o acts later → AreShown acts
+  to_calm None acts later is = ap (list_all is_shown) is.0 ∙ replied_calm t fit.MayFit
   to_calm (Some a) acts later is = by_calm a.opcode a acts later is
 
-  pub written_calm : (s : Session) (acts : List Act) (later : Known) → IsWritten k s bytes t acts later → AreCalm acts
-  written_calm s acts later (inl (head, is)) = by_bool (number_in bytes == 0) (AreCalm acts) _ _
+  pub written_shown : (s : Session) (acts : List Act) (later : Known) → IsWritten k s bytes t acts later → AreShown acts
+  written_shown s acts later (inl (head, is)) = by_bool (number_in bytes == 0) (AreShown acts) _ _
       (λ zero. notified) (λ some. by_bool (is_to_interrupt (number_in bytes) (waits s (number_in bytes)))
-      (AreCalm acts) _ _ (λ interrupt does. ap (list_all is_calm) does.0)
+      (AreShown acts) _ _ (λ interrupt does. ap (list_all is_shown) does.0)
       (λ other. to_calm (waits s (number_in bytes)) acts later)) is
     where
-      notified : IsNotified k bytes t acts later → AreCalm acts
-      notified (inl (m, is, does)) = ap (list_all is_calm) does.0
-          ∙ either is_calm (is_resend bytes t) (act.Resends ∷ []) [] refl refl
-      notified (inr (not, does)) = ap (list_all is_calm) does.0
-  written_calm s acts later (inr (bad, faulty, same)) = ap (list_all is_calm) faulty
+      notified : IsNotified k bytes t acts later → AreShown acts
+      notified (inl (m, is, does)) = ap (list_all is_shown) does.0
+          ∙ either is_shown (is_resend bytes t) (act.Resends ∷ []) [] refl refl
+      notified (inr (not, does)) = ap (list_all is_shown) does.0
+  written_shown s acts later (inr (bad, faulty, same)) = ap (list_all is_shown) faulty
+
+  pub written_calm : (s : Session) (acts : List Act) (later : Known) → IsWritten k s bytes t acts later → AreCalm acts
+  written_calm s acts later is = shown_calm acts (written_shown s acts later is)

@@ -21,7 +21,7 @@ use Rattle.fuse_sessions.specs.declared.known.Known.{Known}
 use Rattle.fuse_sessions.specs.Frames.{AreRequestActs, IsRequestOf}
 use Rattle.fuse_sessions.specs.RequestActs.{asked_of, asking, forgets_in, naming, number_of, releasing, request_acts, resent, using, writing}
 use Rattle.fuse_sessions.specs.UnreadRequests.{asking_unread, has_header, malformed, may_be_known, opcode_in, takes_no_reply, unique_in, unjudged}
-use Rattle.driven_sessions.proofs.Calm.{AreCalm, each_of, either, is_calm}
+use Rattle.driven_sessions.proofs.Calm.{AreCalm, AreShown, each_of, either, is_calm, is_shown, shown_calm}
 
 -- One request is read under the frame's number, or forgets, or one is interrupted, or nothing of these.
 pub data Does (agreed : Agreed) (bytes : List ℕ) (acts : List Act) : Type 0 where
@@ -44,41 +44,41 @@ pub data Does (agreed : Agreed) (bytes : List ℕ) (acts : List Act) : Type 0 wh
 
 -- ---- what a request does behind its reading
 
-naming_calm : (node : ℕ) → AreCalm (naming node)
-naming_calm node = either is_calm (nat_eq node 0) [] _ refl refl
+naming_calm : (node : ℕ) → AreShown (naming node)
+naming_calm node = either is_shown (nat_eq node 0) [] _ refl refl
 
-using_calm : (file : Option OpenFile) → AreCalm (using file)
+using_calm : (file : Option OpenFile) → AreShown (using file)
 using_calm None = refl
 using_calm (Some file) = refl
 
-releasing_calm : (o : Opcode) (node : ℕ) (h : OpenHandle) → AreCalm (releasing o node h)
+releasing_calm : (o : Opcode) (node : ℕ) (h : OpenHandle) → AreShown (releasing o node h)
 releasing_calm op.Release node (handle.File fh) = refl
 releasing_calm op.Releasedir node (handle.Directory fh) = refl
 releasing_calm op.Release node h = refl
 releasing_calm op.Releasedir node h = refl
 releasing_calm o node h = refl
 
-writing_calm : (o : Opcode) (m : RequestMessage) → AreCalm (writing o m)
+writing_calm : (o : Opcode) (m : RequestMessage) → AreShown (writing o m)
 writing_calm op.Write m = refl
 writing_calm o m = refl
 
-abbrev behind : Opcode → RequestMessage → Asked → List Act
+abbrev pub behind : Opcode → RequestMessage → Asked → List Act
 behind o m asked = naming asked.nodeid ++ naming asked.other ++ using asked.uses ++ using asked.copies_to
     ++ releasing o m.nodeid m.handle ++ writing o m ++ act.Asks m.unique asked ∷ []
 
-behind_calm : (o : Opcode) (m : RequestMessage) (asked : Asked) → AreCalm (behind o m asked)
-behind_calm o m asked =
+pub behind_shown : (o : Opcode) (m : RequestMessage) (asked : Asked) → AreShown (behind o m asked)
+behind_shown o m asked =
     let first : List Act = naming asked.nodeid ++ naming asked.other in
     let second : List Act = first ++ using asked.uses in
     let third : List Act = second ++ using asked.copies_to in
     let fourth : List Act = third ++ releasing o m.nodeid m.handle in
     let fifth : List Act = fourth ++ writing o m in
-    let one = each_of is_calm (naming asked.nodeid) (naming asked.other) (naming_calm asked.nodeid) (naming_calm asked.other) in
-    let two = each_of is_calm first (using asked.uses) one (using_calm asked.uses) in
-    let three = each_of is_calm second (using asked.copies_to) two (using_calm asked.copies_to) in
-    let four = each_of is_calm third (releasing o m.nodeid m.handle) three (releasing_calm o m.nodeid m.handle) in
-    let five = each_of is_calm fourth (writing o m) four (writing_calm o m) in
-    each_of is_calm fifth (act.Asks m.unique asked ∷ []) five refl
+    let one = each_of is_shown (naming asked.nodeid) (naming asked.other) (naming_calm asked.nodeid) (naming_calm asked.other) in
+    let two = each_of is_shown first (using asked.uses) one (using_calm asked.uses) in
+    let three = each_of is_shown second (using asked.copies_to) two (using_calm asked.copies_to) in
+    let four = each_of is_shown third (releasing o m.nodeid m.handle) three (releasing_calm o m.nodeid m.handle) in
+    let five = each_of is_shown fourth (writing o m) four (writing_calm o m) in
+    each_of is_shown fifth (act.Asks m.unique asked ∷ []) five refl
 
 -- ---- a whole request
 
@@ -96,7 +96,7 @@ module _ (k : Known) (bytes : List ℕ) (acts : List Act) where
     reads_one : nat_eq (code_of o) 36 ≡ false → acts ≡ act.Arrives ∷ act.Begins o ∷ asking o m (asked_of o m)
         → Does k.agreed bytes acts
     reads_one apart same = reads (other apart) (act.Arrives ∷ act.Begins o ∷ []) (behind o m (asked_of o m)) refl
-        (behind_calm o m (asked_of o m)) (Some o)
+        (shown_calm (behind o m (asked_of o m)) (behind_shown o m (asked_of o m))) (Some o)
         (same ∙ ap (λ (u : ℕ). act.Arrives ∷ act.Begins o ∷ act.Read (Some o) u ∷ behind o m (asked_of o m)) (sym is.unique))
 
     other_row : nat_eq (code_of o) 36 ≡ false → (again : Bool) → (k.has_resent && nat_le (2 ^ 63) m.unique) ≡ again

@@ -14,3 +14,4 @@ mod Single
 mod Forgetting
 mod Forgotten
 mod Shapes
+mod Malformed

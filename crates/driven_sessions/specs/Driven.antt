@@ -1,15 +1,17 @@
 -- A kernel that keeps the rules is never accused: of what `drive` sends the definitions of sessions have no fault.
-use Rattle.std.specs.Prelude.{◌≡◌, ◌≤◌, ℕ, Bool, true, List, [], ◌∷◌}
+use Rattle.std.specs.Prelude.{◌≡◌, ◌≤◌, ℕ, Bool, true, List, [], ◌∷◌, ◌++◌}
 use Rattle.fuse_spec.specs.Kernel.Uniques.{number_limit}
 use Rattle.fuse_device.specs.Transfers.{Transfer}
 use Rattle.fk_drive.specs.Driving.{Driven, Drives, first_driven, next, nothing}
 use Rattle.fk_drive_theorem.specs.TakenOnce.{mounts_in}
+use Rattle.fuse_protocol.specs.declared.agreed.Agreed.{Agreed}
+use Rattle.protocol_law.specs.Law.{Carries}
 use Rattle.fuse_sessions.specs.declared.fault.Fault.{Fault}
 use Rattle.fuse_sessions.specs.declared.known.Known.{Known}
 use Rattle.fuse_sessions.specs.declared.transfer.Transfer.{Transfer as Said}
 use Rattle.fuse_sessions.specs.declared.transfer.Transfer.TheVariants as said
 use Rattle.fuse_sessions.specs.Faults.{HasFaultAt}
-use Rattle.fuse_sessions.specs.Frames.{IsSession}
+use Rattle.fuse_sessions.specs.Frames.{IsSession, Lead, nothing_known}
 use Rattle.fuse_sessions.specs.Sessions.{Session}
 use Rattle.driven_sessions.specs.Transfers.{AreSaid}
 
@@ -44,3 +46,16 @@ NeverAccused group = (asks : Bool) (log : List Transfer) (new : Driven) → Driv
 abbrev pub NeverAccusedInOneMount : (Fault → Bool) → Type 0
 NeverAccusedInOneMount group = (asks : Bool) (log : List Transfer) (new : Driven) (run : Drives (first_driven asks) log new)
     → IsOneMount run → HasNumbers run → IsFreeOf group log
+
+-- What was agreed on before each of these transfers is such.
+abbrev pub HaveAgreed : (Agreed → Type 0) → (k : Known) (s : Session) (ts : List Said) (later : Known) (all : Session)
+    → Lead k s ts later all → Type 0
+HaveAgreed IsSuch k s [] later all leads = Unit {0}
+HaveAgreed IsSuch k s (t ∷ ts) later all (acts, known, are, leads) =
+    IsSuch k.agreed × HaveAgreed IsSuch known (s ++ acts) ts later all leads
+
+-- A kernel is never accused of a group of faults, where each agreement of the session carries the codec's frames.
+abbrev pub NeverAccusedWhereCarried : (Fault → Bool) → Type 0
+NeverAccusedWhereCarried group = (asks : Bool) (log : List Transfer) (new : Driven) → Drives (first_driven asks) log new
+    → (ts : List Said) → AreSaid log ts → (k : Known) (s : Session) (is : IsSession (said.SeveralReaders ∷ ts) k s)
+    → HaveAgreed Carries nothing_known [] (said.SeveralReaders ∷ ts) k s is → ShowsNone group s

@@ -23,3 +23,8 @@ abbrev pub is_of_empty_forgets : Fault → Bool
 is_of_empty_forgets fault.ForgetOfTheRoot = true
 is_of_empty_forgets fault.ForgetOfNoLookup = true
 is_of_empty_forgets f = false
+
+-- A request is none of a row.
+abbrev pub is_of_shapes : Fault → Bool
+is_of_shapes fault.MalformedRequest = true
+is_of_shapes f = false
