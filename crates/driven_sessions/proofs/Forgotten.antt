@@ -228,4 +228,4 @@ empty_forgets_never asks log new run =
     single_free is_of_empty_forgets forgets_within (SaysForgets AreForgets) forgets_shown log
     (run_sends IsGood (SaysForgets AreForgets) Forgetting picked_good
     (λ frame r good says. frame_forgets AreForgets frame r says good)
-    (λ frame unique low own. let head = own_head frame unique low own in own_none frame head.2 head.3) asks (run_forgetting asks) log new run).0
+    (λ frame unique even low own. let head = own_head frame unique low own in own_none frame head.2 head.3) asks (run_forgetting asks) log new run).0

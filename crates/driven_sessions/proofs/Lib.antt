@@ -15,3 +15,4 @@ mod Forgetting
 mod Forgotten
 mod Shapes
 mod Malformed
+mod Odd

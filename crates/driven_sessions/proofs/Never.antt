@@ -30,7 +30,7 @@ use Rattle.fk_drive_theorem.specs.TakenOnce.{mounts_at, mounts_in}
 use Rattle.fk_drive_theorem.proofs.OneEach.{run_one}
 use Rattle.fk_drive_theorem.proofs.RunsTally.{run_tallied}
 use Rattle.driven_sessions.specs.Driven.{HasNumbers, NeverAccusedInOneMount}
-use Rattle.driven_sessions.specs.Groups.{is_of_odd_numbers, is_of_used_numbers}
+use Rattle.driven_sessions.specs.Groups.{is_of_used_numbers}
 use Rattle.driven_sessions.specs.Transfers.{AreSaid}
 use Rattle.driven_sessions.proofs.Calm.{AreCalm, is_of_numbers, written_calm}
 use Rattle.driven_sessions.proofs.Doing.{Does, comes_again, forgets_many, forgets_one, interrupts, nothing as does_nothing, reads, request_does}
@@ -85,7 +85,7 @@ forgets_none : (u : ℕ) (pairs : List (ℕ × ℕ)) → list_any (reads_under u
 forgets_none u [] = refl
 forgets_none u (p ∷ pairs) = forgets_none u pairs
 
-not_interrupt : (n : ℕ) → (n ≡ 36 → ⊥) → nat_eq n 36 ≡ false
+pub not_interrupt : (n : ℕ) → (n ≡ 36 → ⊥) → nat_eq n 36 ≡ false
 not_interrupt n other = by (nat_eq n 36) refl
   where
     by : (b : Bool) → nat_eq n 36 ≡ b → b ≡ false
@@ -266,13 +266,6 @@ readings_never group within asks log new run one few s (ts, is, k, (acts, known,
     (calm_free is_of_readings readings_within [] (act.SeveralReaders ∷ []) refl))
     (λ u. ap (λ (l : List Act). was_read l u) first) log new run one few ts is k s leads in
     never_at is_of_readings [] s runs.free place f has (within f of)
-
-pub odd_numbers_never : NeverAccusedInOneMount is_of_odd_numbers
-odd_numbers_never = readings_never is_of_odd_numbers within
-  where
-    within : (f : Fault) → is_of_odd_numbers f ≡ true → is_of_readings f ≡ true
-    within fault.OddNumber is = refl
-    within f is = absurd (false≢true is)
 
 pub used_numbers_never : NeverAccusedInOneMount is_of_used_numbers
 used_numbers_never = readings_never is_of_used_numbers within

@@ -26,11 +26,29 @@ all_append IsSuch (received frame ∷ log) more first last = all_append IsSuch l
 all_append IsSuch (unsent frame end ∷ log) more first last = all_append IsSuch log more first last
 all_append IsSuch (stopped end ∷ log) more first last = all_append IsSuch log more first last
 
+-- The numbers of OPENDIR and RELEASEDIR are even.
+step_even : (old : Driven) (log : List Transfer) (new : Driven) → DriveStep old log new → old.next % 2 ≡ 0
+    → new.next % 2 ≡ 0
+step_even old log new (opens request turn asks below node lists frame is log' went) even = omega (arith, even)
+step_even old log new (writes frame rest there handed on result k taken log' coming directories release) even =
+    by log' coming directories release
+  where
+    by : (log : List Transfer) (coming : ℕ) (left : List (ℕ × Opened))
+        → ReleasesBehind frame old.next old.directories log coming left → coming % 2 ≡ 0
+    by log coming left (releases head below before after directory same apart bytes is over went) = omega (arith, even)
+    by log coming left (releases_none none) = even
+step_even old log new step even = even
+
+pub run_even : (asks : Bool) (log : List Transfer) (new : Driven) → Drives (first_driven asks) log new
+    → new.next % 2 ≡ 0
+run_even asks log new nothing = refl
+run_even asks log new (behind before mid run last end step) = step_even mid last end step (run_even asks before mid run)
+
 -- What is held is such, and what is sent, if what is picked is, and what is not the kernel's.
 module _ (IsGood : Request → Type 0) (IsSuch : List ℕ → Type 0) (Fine : Kernel → Type 0)
     (good : (k : Kernel) (pick : Pick) (r : Request) → Fine k → IsPicked k pick r → IsGood r)
     (such : (frame : List ℕ) (r : Request) → IsGood r → SaysRequest frame r → IsSuch frame)
-    (own_such : (frame : List ℕ) (unique : ℕ) → unique < 2 ^ 63 → IsOwn frame unique → IsSuch frame) where
+    (own_such : (frame : List ℕ) (unique : ℕ) → unique % 2 ≡ 0 → unique < 2 ^ 63 → IsOwn frame unique → IsSuch frame) where
   abbrev HeldGood : Turn → Type 0
   HeldGood turn = (r : Request) → held turn ≡ Some r → IsGood r
 
@@ -39,17 +57,17 @@ module _ (IsGood : Request → Type 0) (IsSuch : List ℕ → Type 0) (Fine : Ke
   held_sent turn r right holds frame says log (with_result result) = (such frame r (right r holds) says, tt)
   held_sent turn r right holds frame says log (at_end end) = tt
 
-  own_sent : (frame : List ℕ) (unique : ℕ) → unique < 2 ^ 63 → IsOwn frame unique → (log : List Transfer) → SendsFrame frame log
+  own_sent : (frame : List ℕ) (unique : ℕ) → unique % 2 ≡ 0 → unique < 2 ^ 63 → IsOwn frame unique → (log : List Transfer) → SendsFrame frame log
       → AllSent IsSuch log
-  own_sent frame unique low own log (with_result result) = (own_such frame unique low own, tt)
-  own_sent frame unique low own log (at_end end) = tt
+  own_sent frame unique even low own log (with_result result) = (own_such frame unique even low own, tt)
+  own_sent frame unique even low own log (at_end end) = tt
 
-  released_sent : (frame : List ℕ) (coming : ℕ) (directories : List (ℕ × Opened)) (log : List Transfer) (later : ℕ)
+  released_sent : (frame : List ℕ) (coming : ℕ) → coming % 2 ≡ 0 → (directories : List (ℕ × Opened)) (log : List Transfer) (later : ℕ)
       (left : List (ℕ × Opened)) → ReleasesBehind frame coming directories log later left → AllSent IsSuch log
-  released_sent frame coming directories log later left
+  released_sent frame coming even directories log later left
       (releases head below before after directory there apart bytes is log' went) =
-      own_sent bytes coming below (inr (directory, is)) log went
-  released_sent frame coming directories log later left (releases_none none) = tt
+      own_sent bytes coming even below (inr (directory, is)) log went
+  released_sent frame coming even directories log later left (releases_none none) = tt
 
   abbrev Right : List Transfer → Driven → Type 0
   Right log new = AllSent IsSuch log × HeldGood new.turn
@@ -60,32 +78,32 @@ module _ (IsGood : Request → Type 0) (IsSuch : List ℕ → Type 0) (Fine : Ke
   none_right : (turn : Turn) → held turn ≡ None → HeldGood turn
   none_right turn none r is = absurd (none_held (held turn) r none is)
 
-  step_right : (old : Driven) (log : List Transfer) (new : Driven) → DriveStep old log new → Fine old.kernel
+  step_right : (old : Driven) (log : List Transfer) (new : Driven) → DriveStep old log new → Fine old.kernel → old.next % 2 ≡ 0
       → HeldGood old.turn → Right log new
-  step_right old log new (alone k acts) fine right = (tt, right)
-  step_right old log new (reads idles pick may request is) fine right =
+  step_right old log new (alone k acts) fine even right = (tt, right)
+  step_right old log new (reads idles pick may request is) fine even right =
       (tt, λ r same. subst IsGood (some_request request r same) (good old.kernel pick request fine is))
-  step_right old log new (sends request turn unlisted frame says log' went) fine right =
+  step_right old log new (sends request turn unlisted frame says log' went) fine even right =
       (held_sent old.turn request right (ap held turn) frame says log went, none_right new.turn refl)
-  step_right old log new (opens request turn asks below node lists frame is log' went) fine right =
-      (own_sent frame old.next below (inl (node, is)) log went, moved old.turn new.turn (sym (ap held turn)) right)
-  step_right old log new (is_given request unique node turn frame fh gives) fine right =
+  step_right old log new (opens request turn asks below node lists frame is log' went) fine even right =
+      (own_sent frame old.next even below (inl (node, is)) log went, moved old.turn new.turn (sym (ap held turn)) right)
+  step_right old log new (is_given request unique node turn frame fh gives) fine even right =
       (tt, moved old.turn new.turn (sym (ap held turn)) right)
-  step_right old log new (is_not_known request unique node turn frame gives) fine right =
+  step_right old log new (is_not_known request unique node turn frame gives) fine even right =
       (tt, moved old.turn new.turn (sym (ap held turn)) right)
-  step_right old log new (is_refused request unique node turn frame error other gives) fine right =
+  step_right old log new (is_refused request unique node turn frame error other gives) fine even right =
       (tt, moved old.turn new.turn (sym (ap held turn)) right)
-  step_right old log new (is_garbled request unique node turn frame head same gives) fine right =
+  step_right old log new (is_garbled request unique node turn frame head same gives) fine even right =
       (tt, moved old.turn new.turn (sym (ap held turn)) right)
-  step_right old log new (sends_opened request fh turn frame says handle log' went) fine right =
+  step_right old log new (sends_opened request fh turn frame says handle log' went) fine even right =
       (held_sent old.turn request right (ap held turn) frame says log went, none_right new.turn refl)
-  step_right old log new (answers request error turn bytes written result k taken) fine right =
+  step_right old log new (answers request error turn bytes written result k taken) fine even right =
       (tt, none_right new.turn refl)
-  step_right old log new (waits frame own_one) fine right = (tt, right)
-  step_right old log new (sets_aside frame other) fine right = (tt, right)
-  step_right old log new (writes frame rest there handed on result k taken log' coming directories release) fine right =
-      (released_sent frame old.next old.directories log coming directories release, right)
-  step_right old log new (ends end) fine right = (tt, right)
+  step_right old log new (waits frame own_one) fine even right = (tt, right)
+  step_right old log new (sets_aside frame other) fine even right = (tt, right)
+  step_right old log new (writes frame rest there handed on result k taken log' coming directories release) fine even right =
+      (released_sent frame old.next even old.directories log coming directories release, right)
+  step_right old log new (ends end) fine even right = (tt, right)
 
   module _ (asks : Bool)
       (fine : (log : List Transfer) (new : Driven) → Drives (first_driven asks) log new → Fine new.kernel) where
@@ -94,7 +112,7 @@ module _ (IsGood : Request → Type 0) (IsSuch : List ℕ → Type 0) (Fine : Ke
     run_sends log new nothing = (tt, none_right new.turn refl)
     run_sends log new (behind before mid run last end step) =
         let was = run_sends before mid run in
-        let now = step_right mid last end step (fine before mid run) was.1 in
+        let now = step_right mid last end step (fine before mid run) (run_even asks before mid run) was.1 in
         (all_append IsSuch before last was.0 now.0, now.1)
 
 -- ---- INTERRUPTs
@@ -134,4 +152,4 @@ interrupt_sent frame r right says is =
 pub run_right : (asks : Bool) (log : List Transfer) (new : Driven) → Drives (first_driven asks) log new
     → AllSent IsInterruptRight log
 run_right asks log new run = (run_sends IsRight IsInterruptRight (λ k. Evens k.queues) picked_right interrupt_sent
-    (λ frame unique low own is. absurd (false≢true (sym (own_head frame unique low own).0 ∙ is))) asks (run_evens asks) log new run).0
+    (λ frame unique even low own is. absurd (false≢true (sym (own_head frame unique low own).0 ∙ is))) asks (run_evens asks) log new run).0

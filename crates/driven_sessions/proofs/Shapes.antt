@@ -108,5 +108,5 @@ own_shaped bytes unique low (inr (opened, is)) = releasedir_shaped bytes unique 
 pub run_shaped : (asks : Bool) (log : List Transfer) (new : Driven) → Drives (first_driven asks) log new
     → AllSent IsShaped log
 run_shaped asks log new run = (run_sends (λ (r : Request). Unit {0}) IsShaped (λ (k : Kernel). Unit {0})
-    (λ k pick r fine is. tt) (λ frame r good says. said_shaped frame r says) own_shaped asks (λ log' new' run'. tt) log new
+    (λ k pick r fine is. tt) (λ frame r good says. said_shaped frame r says) (λ frame unique even low own. own_shaped frame unique low own) asks (λ log' new' run'. tt) log new
     run).0

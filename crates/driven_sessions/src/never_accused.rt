@@ -28,9 +28,9 @@ pub fn interrupts_have_their_numbers()
     ensures { NeverAccused is_of_interrupt_numbers }
 {}
 
-/// Each request that is no INTERRUPT has an even number, in one mount.
+/// Each request that is no INTERRUPT has an even number, however often the kernel mounts.
 pub fn numbers_are_even()
-    ensures { NeverAccusedInOneMount is_of_odd_numbers }
+    ensures { NeverAccused is_of_odd_numbers }
 {}
 
 /// No request has the number of another, in one mount: those of the kernel rise and stay below 2^62, where those of OPENDIR

@@ -1,4 +1,4 @@
-use Rattle.driven_sessions.proofs.Never.{odd_numbers_never}
+use Rattle.driven_sessions.proofs.Odd.{odd_numbers_never}
 use Rattle.driven_sessions.proofs.never_accused.numbers_are_even.Goals as goal
 
 pub returns : goal.returns
