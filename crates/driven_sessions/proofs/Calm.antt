@@ -1,0 +1,324 @@
+-- The acts by which none of the groups' faults is shown, whatever was before: all of those that a server shows.
+use Rattle.std.proofs.Common.{◌≡◌, inl, inr, ℕ, ◌==◌, ◌&&◌, ◌||◌, codes, map, nat_eq, nat_lt, Bool, true, false, not, List, [], ◌∷◌, ◌++◌, Option, Some, None, refl, sym, ◌∙◌, ap, drop, flat_map, bit_and, if◌then◌else◌}
+use Rattle.std.specs.Prelude.{MatchBool}
+use Rattle.std.specs.List.{list_all}
+use Rattle.std.proofs.lemmas.Bool.{and_from, and_parts}
+use Rattle.fuse_protocol.specs.declared.init.InitRequest.{InitRequest}
+use Rattle.fuse_protocol.specs.declared.opcode.Opcode.{Opcode}
+use Rattle.fuse_protocol.specs.declared.opcode.Opcode.TheVariants as op
+use Rattle.fuse_protocol.specs.Table.{row_at}
+use Rattle.fuse_replies.specs.declared.entry.Entry.{Entry}
+use Rattle.fuse_replies.specs.Record.{EntryRecordContent}
+use Rattle.fuse_replies.specs.Records.{entry_records_from}
+use Rattle.fuse_replies.specs.Replies.{AnswerContent}
+use Rattle.fuse_replies.specs.Replies as answer
+use Rattle.fuse_sessions.specs.declared.act.Act.{Act}
+use Rattle.fuse_sessions.specs.declared.act.Act.TheVariants as act
+use Rattle.fuse_sessions.specs.declared.act.Asked.{Asked}
+use Rattle.fuse_sessions.specs.declared.act.File.{File}
+use Rattle.fuse_sessions.specs.declared.act.Fit.{Fit}
+use Rattle.fuse_sessions.specs.declared.act.Fit.TheVariants as fit
+use Rattle.fuse_sessions.specs.declared.act.OpenFile.{OpenFile}
+use Rattle.fuse_sessions.specs.declared.act.Taken.{Taken}
+use Rattle.fuse_sessions.specs.declared.act.Taken.TheVariants as taken
+use Rattle.fuse_sessions.specs.declared.fault.Fault.{Fault}
+use Rattle.fuse_sessions.specs.declared.fault.Fault.TheVariants as fault
+use Rattle.fuse_sessions.specs.declared.known.Known.{Known}
+use Rattle.fuse_sessions.specs.Sessions.{Session}
+use Rattle.fuse_sessions.specs.Waiting.{waits}
+use Rattle.fuse_sessions.specs.Faults.{BreaksArrival, BreaksBeginning, BreaksGift, BreaksAttributes, BreaksName, BreaksRelease, BreaksReply, BreaksReplyToInterrupt, BreaksTaking, BreaksUse, BreaksWrite, WarnsOfError, WarnsOfMissing, WarnsOfOpening, Breaks}
+use Rattle.fuse_sessions.specs.Frames.{number_in, error_in, is_resend, eintr, eintr_acts, replied, init_acts, of_version, of_offered, said_acts, listed_acts, is_to_interrupt, IsNotified, IsReplyBy, IsReplyTo, IsWritten}
+use Rattle.fuse_sessions.specs.Fits.{fit_in, fit_of_another}
+use Rattle.fuse_sessions.specs.RequestActs.{is_name}
+use Rattle.fuse_sessions.specs.ReplyActs.{answer_acts, counting, entry_acts, failed_acts, is_kind, is_made, is_opened, kind_acts, kind_of, may_be_missing, opening, opening_none, record_acts, root_acts}
+use Rattle.fuse_sessions.specs.Warnings.{is_missing, is_of_node, is_offset, last_behind, listing_acts, missing_acts, repeats_behind}
+
+-- the faults of all groups
+abbrev pub is_of_numbers : Fault → Bool
+is_of_numbers fault.OddNumber = true
+is_of_numbers fault.NumberUsedTwice = true
+is_of_numbers fault.InterruptUnderAnotherNumber = true
+is_of_numbers fault.ForgetOfTheRoot = true
+is_of_numbers fault.ForgetOfNoLookup = true
+is_of_numbers f = false
+
+-- an act that reads no request, again or not, interrupts none and forgets nothing, and is no such fault
+abbrev pub is_calm : Act → Bool
+is_calm (act.Faulty f) = not (is_of_numbers f)
+is_calm (act.Read o unique) = false
+is_calm (act.Resent unique original) = false
+is_calm (act.Interrupts unique original) = false
+is_calm (act.Forgets node lookups) = false
+is_calm a = true
+
+abbrev pub AreCalm : List Act → Type 0
+AreCalm acts = list_all is_calm acts ≡ true
+
+-- What is calm, and is no malformed request.
+abbrev pub is_shown : Act → Bool
+is_shown (act.Faulty fault.MalformedRequest) = false
+is_shown a = is_calm a
+
+abbrev pub AreShown : List Act → Type 0
+AreShown acts = list_all is_shown acts ≡ true
+
+pub shown_calm : (acts : List Act) → AreShown acts → AreCalm acts
+shown_calm [] are = refl
+shown_calm (a ∷ acts) are =
+    let both = and_parts (is_shown a) (list_all is_shown acts) are in
+    and_from (is_calm a) (list_all is_calm acts) (by a both.0) (shown_calm acts both.1)
+  where
+    by : (a : Act) → is_shown a ≡ true → is_calm a ≡ true
+    by (act.Faulty fault.MalformedRequest) is = cc
+    by (act.Faulty f) is = is
+    by a is = is
+
+-- ---- no calm act shows one
+
+arrives : (s : Session) (f : Fault) → BreaksArrival s f → is_of_numbers f ≡ true → ⊥
+arrives s fault.ReadAfterTheEnd b is = cc
+arrives s f b is = b
+
+begins : (s : Session) (o : Opcode) (f : Fault) → BreaksBeginning s o f → is_of_numbers f ≡ true → ⊥
+begins s o fault.InitNotFirst b is = cc
+begins s o fault.RequestBeforeInit b is = cc
+begins s op.Init f b is = b
+begins s o f b is = b
+
+names : (s : Session) (n : ℕ) (f : Fault) → BreaksName s n f → is_of_numbers f ≡ true → ⊥
+names s n fault.NodeNotCounted b is = cc
+names s n f b is = b
+
+uses : (s : Session) (file : OpenFile) (f : Fault) → BreaksUse s file f → is_of_numbers f ≡ true → ⊥
+uses s file fault.HandleNotOpen b is = cc
+uses s file f b is = b
+
+releases : (s : Session) (file : OpenFile) (f : Fault) → BreaksRelease s file f → is_of_numbers f ≡ true → ⊥
+releases s file fault.ReleaseOfWhatIsNotOpen b is = cc
+releases s file fault.ReleaseBesideAUse b is = cc
+releases s file f b is = b
+
+writes : (s : Session) (n : ℕ) (f : Fault) → BreaksWrite s n f → is_of_numbers f ≡ true → ⊥
+writes s n fault.WriteTooLarge b is = cc
+writes s n f b is = b
+
+takes : (s : Session) (u : ℕ) (t : Taken) (body : Fit) (f : Fault) → BreaksTaking s u t body f → is_of_numbers f ≡ true → ⊥
+takes s u t body fault.AcceptedAfterTheEnd b is = cc
+takes s u t body fault.AcceptedReplyToNothing b is = cc
+takes s u t body fault.AcceptedWrongBody b is = cc
+takes s u t body fault.RefusedReply b is = cc
+takes s u taken.Accepted fit.Fits f b is = b
+takes s u taken.Accepted fit.FitsNot f b is = b
+takes s u taken.Accepted fit.MayFit f b is = b
+takes s u taken.NoEntry body f b is = b
+takes s u taken.Invalid fit.Fits f b is = b
+takes s u taken.Invalid fit.FitsNot f b is = b
+takes s u taken.Invalid fit.MayFit f b is = b
+takes s u taken.Failed body f b is = b
+
+replies : (s : Session) (u : ℕ) (f : Fault) → BreaksReply s u f → is_of_numbers f ≡ true → ⊥
+replies s u fault.ReplyToForget b is = cc
+replies s u fault.SecondReply b is = cc
+replies s u fault.ReplyToNothing b is = cc
+replies s u f b is = b
+
+replies_to : (s : Session) (u : ℕ) (again : Bool) (t : Taken) (f : Fault) → BreaksReplyToInterrupt s u again t f
+    → is_of_numbers f ≡ true → ⊥
+replies_to s u again t fault.ReplyToNothing b is = cc
+replies_to s u again t fault.ReplyToNoInterrupt b is = cc
+replies_to s u again t fault.AgainTooOften b is = cc
+replies_to s u again t f b is = b
+
+gives : (s : Session) (n : ℕ) (file : File) (f : Fault) → BreaksGift s n file f → is_of_numbers f ≡ true → ⊥
+gives s n file fault.NodeOfTwoGenerations b is = cc
+gives s n file fault.NodeOfTwoKinds b is = cc
+gives s n file fault.NodeOfTwoInodeNumbers b is = cc
+gives s n file fault.NodeGivenAgain b is = cc
+gives s n file f b is = b
+
+describes : (s : Session) (n kind ino : ℕ) (f : Fault) → BreaksAttributes s n kind ino f → is_of_numbers f ≡ true → ⊥
+describes s n kind ino fault.NodeOfTwoKinds b is = cc
+describes s n kind ino fault.NodeOfTwoInodeNumbers b is = cc
+describes s n kind ino f b is = b
+
+warns : (s : Session) (u : ℕ) (f : Fault) → WarnsOfError s u f → is_of_numbers f ≡ true → ⊥
+warns s u fault.InterruptedByNobody b is = cc
+warns s u f b is = b
+
+misses : (s : Session) (n : ℕ) (f : Fault) → WarnsOfMissing s n f → is_of_numbers f ≡ true → ⊥
+misses s n fault.NoSuchNode b is = cc
+misses s n f b is = b
+
+opens : (s : Session) (file : OpenFile) (f : Fault) → WarnsOfOpening s file f → is_of_numbers f ≡ true → ⊥
+opens s file fault.HandleGivenAgain b is = cc
+opens s file f b is = b
+
+another : (b : Bool) → not b ≡ true → b ≡ true → ⊥
+another true n e = cc
+another false n e = cc
+
+pub calm_law : (s : Session) (a : Act) (f : Fault) → is_calm a ≡ true → Breaks s a f → is_of_numbers f ≡ true → ⊥
+calm_law s (act.Faulty that) f calm b is = another (is_of_numbers that) calm (ap is_of_numbers (sym b) ∙ is)
+calm_law s act.Arrives f calm b is = arrives s f b is
+calm_law s (act.Begins o) f calm b is = begins s o f b is
+calm_law s (act.Read o u) f calm b is = cc
+calm_law s (act.Resent u o) f calm b is = cc
+calm_law s (act.Interrupts u o) f calm b is = cc
+calm_law s (act.Names n) f calm b is = names s n f b is
+calm_law s (act.Forgets n l) f calm b is = cc
+calm_law s (act.Uses file) f calm b is = uses s file f b is
+calm_law s (act.Releases file) f calm b is = releases s file f b is
+calm_law s (act.Writes n) f calm b is = writes s n f b is
+calm_law s (act.Takes u t body) f calm b is = takes s u t body f b is
+calm_law s (act.Interrupted u) f calm b is = warns s u f b is
+calm_law s (act.Replies u t) f calm b is = replies s u f b is
+calm_law s (act.RepliesToInterrupt o again t) f calm b is = replies_to s o again t f b is
+calm_law s (act.Gives n file certain) f calm b is = gives s n file f b is
+calm_law s (act.Describes n kind ino) f calm b is = describes s n kind ino f b is
+calm_law s (act.Missing n errno) f calm b is = misses s n f b is
+calm_law s (act.Opens file) f calm b is = opens s file f b is
+calm_law s other f calm b is = b
+
+-- ---- the acts of what a server writes
+
+module _ (test : Act → Bool) where
+  pub each_of : (xs ys : List Act) → list_all test xs ≡ true → list_all test ys ≡ true → list_all test (xs ++ ys) ≡ true
+  each_of [] ys p q = q
+  each_of (a ∷ xs) ys p q =
+      let both = and_parts (test a) (list_all test xs) p in
+      and_from (test a) (list_all test (xs ++ ys)) both.0 (each_of xs ys both.1 q)
+
+  pub either : (b : Bool) (xs ys : List Act) → list_all test xs ≡ true → list_all test ys ≡ true
+      → list_all test (if b then xs else ys) ≡ true
+  either true xs ys p q = p
+  either false xs ys p q = q
+
+pub by_bool : (b : Bool) (Goal P Q : Type 0) → (b ≡ true → P → Goal) → (b ≡ false → Q → Goal) → MatchBool b P Q → Goal
+by_bool true Goal P Q first second is = first refl is
+by_bool false Goal P Q first second is = second refl is
+
+kind_calm : (a : Asked) (e : Entry) → AreShown (kind_acts a e)
+kind_calm a e = either is_shown (is_kind (kind_of e.attributes)) _ _
+    (either is_shown (is_made a e) [] (act.Faulty fault.EntryOfAnotherKind ∷ []) refl refl) refl
+
+entry_calm : (certain : Bool) (o : Opcode) (a : Asked) (e : Entry) → AreShown (entry_acts certain o a e)
+entry_calm certain o a e = either is_shown (nat_eq e.nodeid 1) (root_acts a) _
+    (either is_shown a.is_dots [] (act.Faulty fault.EntryOfTheRoot ∷ []) refl refl)
+    (either is_shown (nat_eq e.nodeid 0) _ _
+    (either is_shown (may_be_missing o) [] (act.Faulty fault.EntryOfNoNode ∷ []) refl refl)
+    (each_of is_shown (kind_acts a e) _ (kind_calm a e) refl))
+
+records_calm : (certain : Bool) (a : Asked) (rs : List EntryRecordContent) → AreShown (flat_map (record_acts certain a) rs)
+records_calm certain a [] = refl
+records_calm certain a (r ∷ rs) = each_of is_shown (record_acts certain a r) _
+    (either is_shown (is_name r.said.name (codes ".") || is_name r.said.name (codes "..")) []
+    (entry_acts certain op.Readdirplus a r.entry) refl (entry_calm certain op.Readdirplus a r.entry))
+    (records_calm certain a rs)
+
+counting_calm : (o : Opcode) (said most : ℕ) → AreShown (counting o said most)
+counting_calm op.Write said most = either is_shown (nat_lt most said) (act.Faulty fault.MoreThanWasAsked ∷ []) [] refl refl
+counting_calm op.CopyFileRange said most =
+    either is_shown (nat_lt most said) (act.Faulty fault.MoreThanWasAsked ∷ []) [] refl refl
+counting_calm op.CopyFileRange64 said most =
+    either is_shown (nat_lt most said) (act.Faulty fault.MoreThanWasAsked ∷ []) [] refl refl
+counting_calm o said most = refl
+
+none_calm : (o : Opcode) → AreShown (opening_none o)
+none_calm op.Open = refl
+none_calm op.Opendir = refl
+none_calm o = refl
+
+failed_calm : (o : Opcode) (node errno : ℕ) → AreShown (failed_acts o node errno)
+failed_calm o node errno = each_of is_shown (if nat_eq errno 38 then opening_none o else []) (missing_acts o node errno)
+    (either is_shown (nat_eq errno 38) (opening_none o) [] (none_calm o) refl)
+    (either is_shown (is_of_node o && is_missing errno) _ [] refl refl)
+
+opening_calm : (o : Opcode) (node fh : ℕ) → AreShown (opening o node fh)
+opening_calm op.Open node fh = refl
+opening_calm op.Opendir node fh = refl
+opening_calm op.Create node fh = refl
+opening_calm op.Tmpfile node fh = refl
+opening_calm o node fh = refl
+
+listing_calm : (asked : ℕ) (offsets : List ℕ) → AreShown (listing_acts asked offsets)
+listing_calm asked offsets =
+    let twice : List Act = act.Faulty fault.OffsetGivenTwice ∷ [] in
+    let endless : List Act = act.Faulty fault.ListingWithoutEnd ∷ [] in
+    let ends : Bool = is_offset asked (last_behind None offsets) in
+    each_of is_shown (if repeats_behind None offsets then twice else []) (if ends then endless else [])
+    (either is_shown (repeats_behind None offsets) twice [] refl refl) (either is_shown ends endless [] refl refl)
+
+answer_calm : (o : Opcode) (a : Asked) (content : AnswerContent) → AreShown (answer_acts o a content)
+answer_calm o a (answer.failed errno) = failed_calm o a.nodeid errno
+answer_calm o a (answer.entry e) = entry_calm true o a e
+answer_calm o a (answer.attributes v) = refl
+answer_calm o a (answer.opened file) = opening_calm o a.nodeid file.handle
+answer_calm o a (answer.created e file) = each_of is_shown (entry_acts true o a e) _ (entry_calm true o a e)
+    (either is_shown (is_opened a e) (opening o e.nodeid file.handle) [] (opening_calm o e.nodeid file.handle) refl)
+answer_calm o a (answer.number n) = counting_calm o n a.writes
+answer_calm o a (answer.records rs) = listing_calm a.lists_from (map (λ r. r.off) rs)
+answer_calm o a (answer.entry_records rs) = each_of is_shown (flat_map (record_acts true a) rs) _
+    (records_calm true a rs) (listing_calm a.lists_from (map (λ r. r.said.off) rs))
+answer_calm o a (answer.init i) = refl
+answer_calm o a other = refl
+
+module _ (k : Known) (bytes : List ℕ) (t : Taken) where
+  replied_calm : (t : Taken) (body : Fit) → AreShown (replied bytes t body)
+  replied_calm taken.Accepted body = each_of is_shown (eintr_acts bytes taken.Accepted)
+      (act.Takes (number_in bytes) taken.Accepted body ∷ act.Replies (number_in bytes) taken.Accepted ∷ [])
+      (either is_shown (error_in bytes == eintr) (act.Interrupted (number_in bytes) ∷ []) [] refl refl) refl
+  replied_calm taken.NoEntry body = refl
+  replied_calm taken.Invalid body = refl
+  replied_calm taken.Failed body = refl
+
+  init_calm : (o : Option InitRequest) (content : AnswerContent) → AreShown (init_acts o content)
+  init_calm (Some r) (answer.init i) = each_of is_shown (of_version i) (of_offered r i)
+      (either is_shown (i.major == 7) [] (act.Faulty fault.InitOfAnotherVersion ∷ []) refl refl)
+      (either is_shown (bit_and i.flags r.flags == i.flags) [] (act.Faulty fault.FlagsThatWereNotOffered ∷ []) refl refl)
+  init_calm (Some r) content = refl
+  init_calm None content = refl
+
+  said_calm : (o : Opcode) (a : Asked) (t : Taken) (content : AnswerContent) → AreShown (said_acts k o a t content)
+  said_calm o a taken.Accepted content = each_of is_shown (init_acts k.offered content) (answer_acts o a content)
+      (init_calm k.offered content) (answer_calm o a content)
+  said_calm o a taken.NoEntry content = refl
+  said_calm o a taken.Invalid content = refl
+  said_calm o a taken.Failed content = refl
+
+  listed_calm : (o : Opcode) (a : Asked) (t : Taken) → AreShown (listed_acts o a t bytes)
+  listed_calm op.Readdirplus a taken.Accepted = either is_shown (error_in bytes == 0)
+      (flat_map (record_acts false a) (entry_records_from 0 (drop 16 bytes))) []
+      (records_calm false a (entry_records_from 0 (drop 16 bytes))) refl
+  listed_calm op.Readdirplus a t = refl
+  listed_calm o a t = refl
+
+  by_calm : (o : Option Opcode) (a : Asked) (acts : List Act) (later : Known) → IsReplyBy k bytes t o a acts later
+      → AreShown acts
+  by_calm None a acts later is = ap (list_all is_shown) is.0 ∙ replied_calm t fit.MayFit
+  by_calm (Some o) a acts later (inl (m, is, says)) =
+      let body : Fit = fit_in (row_at o).reply a.asked bytes in
+      ap (list_all is_shown) says.0 ∙ each_of is_shown (replied bytes t body) (said_acts k o a t m.answer)
+      (replied_calm t body) (said_calm o a t m.answer)
+  by_calm (Some o) a acts later (inr (none, is)) =
+      let body : Fit = fit_of_another (fit_in (row_at o).reply a.asked bytes) in
+      ap (list_all is_shown) is.0 ∙ each_of is_shown (replied bytes t body) (listed_acts o a t bytes)
+      (replied_calm t body) (listed_calm o a t)
+
+  to_calm : (o : Option Asked) (acts : List Act) (later : Known) → IsReplyTo k bytes t o acts later → AreShown acts
+  to_calm None acts later is = ap (list_all is_shown) is.0 ∙ replied_calm t fit.MayFit
+  to_calm (Some a) acts later is = by_calm a.opcode a acts later is
+
+  pub written_shown : (s : Session) (acts : List Act) (later : Known) → IsWritten k s bytes t acts later → AreShown acts
+  written_shown s acts later (inl (head, is)) = by_bool (number_in bytes == 0) (AreShown acts) _ _
+      (λ zero. notified) (λ some. by_bool (is_to_interrupt (number_in bytes) (waits s (number_in bytes)))
+      (AreShown acts) _ _ (λ interrupt does. ap (list_all is_shown) does.0)
+      (λ other. to_calm (waits s (number_in bytes)) acts later)) is
+    where
+      notified : IsNotified k bytes t acts later → AreShown acts
+      notified (inl (m, is, does)) = ap (list_all is_shown) does.0
+          ∙ either is_shown (is_resend bytes t) (act.Resends ∷ []) [] refl refl
+      notified (inr (not, does)) = ap (list_all is_shown) does.0
+  written_shown s acts later (inr (bad, faulty, same)) = ap (list_all is_shown) faulty
+
+  pub written_calm : (s : Session) (acts : List Act) (later : Known) → IsWritten k s bytes t acts later → AreCalm acts
+  written_calm s acts later is = shown_calm acts (written_shown s acts later is)

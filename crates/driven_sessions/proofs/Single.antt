@@ -1,0 +1,181 @@
+-- Groups of faults that a frame shows by itself, whatever went before it.
+use Rattle.std.proofs.Common.{◌≡◌, ◌≤◌, ℕ, ◌+◌, Bool, true, false, List, [], ◌∷◌, ◌++◌, take, drop, length, Some, None, nat_eq, nat_le, refl, sym, ◌∙◌, ap, subst, arith, length-drop, length-take, if◌then◌else◌}
+use Rattle.std.specs.Borrow.{Bor}
+use Rattle.std.proofs.lemmas.Bool.{false≢true}
+use Rattle.std.proofs.lemmas.Bool.Decides.{nat_tests}
+use Rattle.byteorder.specs.Numbers.{little_from-take}
+use Rattle.fk_fields.specs.Fields.{number_at}
+use Rattle.fuse_device.specs.Transfers.{Transfer, received, sent, stopped, unsent}
+use Rattle.fuse_protocol.specs.declared.agreed.Agreed.{Agreed}
+use Rattle.fuse_protocol.specs.declared.opcode.Opcode.{Opcode}
+use Rattle.fuse_protocol.specs.declared.opcode.Opcode.TheVariants as op
+use Rattle.fuse_protocol.specs.Pairs.{pairs_of_row}
+use Rattle.fuse_protocol.specs.Places.{number_in, places_at}
+use Rattle.fuse_protocol.specs.Requests.{RequestMessage}
+use Rattle.fuse_protocol.specs.Table.{row_at}
+use Rattle.fuse_sessions.specs.declared.act.Act.{Act}
+use Rattle.fuse_sessions.specs.declared.act.Act.TheVariants as act
+use Rattle.fuse_sessions.specs.declared.fault.Fault.{Fault}
+use Rattle.fuse_sessions.specs.declared.fault.Fault.TheVariants as fault
+use Rattle.fuse_sessions.specs.declared.known.Known.{Known}
+use Rattle.fuse_sessions.specs.declared.transfer.Transfer.{Transfer as Said}
+use Rattle.fuse_sessions.specs.declared.transfer.Transfer.TheVariants as said
+use Rattle.fuse_sessions.specs.Faults.{Breaks, BreaksNumber}
+use Rattle.fuse_sessions.specs.Frames.{AreActs, AreReadActs, IsRequestOf, Lead}
+use Rattle.fuse_sessions.specs.RequestActs.{asked_of, forgets_in, number_of}
+use Rattle.fuse_sessions.specs.Sessions.{Session}
+use Rattle.fuse_sessions.specs.UnreadRequests.{unique_in}
+use Rattle.driven_sessions.specs.Driven.{IsFreeOf, NeverAccused}
+use Rattle.driven_sessions.specs.Groups.{is_of_interrupt_numbers}
+use Rattle.driven_sessions.specs.Transfers.{AllSent, AreSaid}
+use Rattle.driven_sessions.proofs.Calm.{is_of_numbers}
+use Rattle.driven_sessions.proofs.Doing.{Does, comes_again, forgets_many, forgets_one, interrupts, nothing, reads, request_does}
+use Rattle.driven_sessions.proofs.Leading.{AreFree, calm_free, free_append, never_at}
+use Rattle.driven_sessions.proofs.Never.{by_judged, ended_calm, written_is_calm}
+use Rattle.driven_sessions.proofs.Sending.{IsInterruptRight, run_right}
+
+-- ---- what the struct of a request says
+
+first_number : (bytes : List ℕ) → number_at 0 8 (take 8 (drop 40 bytes)) ≡ number_at 40 8 bytes
+unfolding number_at
+first_number bytes = little_from-take 0 8 8 (drop 40 bytes) (omega arith)
+
+-- The first eight bytes behind the header are a number.
+pub struct_number : (bytes fixed : List ℕ) → 48 ≤ length bytes → take 8 (drop 40 bytes) ≡ fixed
+    → number_of (number_in (places_at op.Interrupt).interrupted fixed) ≡ number_at 40 8 bytes
+struct_number bytes fixed long same = by (nat_le 8 (length fixed)) whole
+  where
+    whole : nat_le 8 (length fixed) ≡ true
+    whole =
+        let count : length (take 8 (drop 40 bytes)) ≡ length fixed = ap (λ (l : List ℕ). length l) same in
+        let taken = length-take 8 (drop 40 bytes) in
+        let dropped = length-drop 40 bytes in
+        grind (arith, nat_tests, count, taken, dropped, long)
+
+    by : (b : Bool) → b ≡ true → number_of (if b then Some (number_at 0 8 fixed) else None) ≡ number_at 40 8 bytes
+    by true e = ap (number_at 0 8) (sym same) ∙ first_number bytes
+    by false e = absurd (false≢true e)
+
+pub interrupted_at : (agreed : Agreed) (bytes : List ℕ) (m : RequestMessage) → IsRequestOf agreed bytes (op.Interrupt, m)
+    → number_of (number_in (places_at op.Interrupt).interrupted m.fixed) ≡ number_at 40 8 bytes
+interrupted_at agreed bytes m is =
+    let whole = is.whole in struct_number bytes m.fixed (omega (arith, whole)) is.fixed
+
+-- ---- a group that needs no more than the frame
+
+-- Each frame that is such shows none of the group.
+abbrev pub ShowsNoneBy : (group : Fault → Bool) → (List ℕ → Type 0) → Type 0
+ShowsNoneBy group IsSuch = (agreed : Agreed) (frame : List ℕ) (s : Session) (acts : List Act) → IsSuch frame
+    → Does agreed frame acts → AreFree group s acts
+
+module _ (group : Fault → Bool) (within : (f : Fault) → group f ≡ true → is_of_numbers f ≡ true)
+    (IsSuch : List ℕ → Type 0) (shows : ShowsNoneBy group IsSuch) where
+  request_free : (k : Known) (s : Session) (b : Bor (List ℕ)) (acts : List Act) (later : Known) → IsSuch b.now
+      → AreActs k s (said.Request b) acts later → AreFree group s acts
+  request_free k s b acts later such is = by_judged (AreFree group s acts) k.unjudged
+      (AreReadActs k s (said.Request b) acts later) (λ why. (acts ≡ []) × (later ≡ k))
+      (λ judged does. shows k.agreed b.now s acts such (request_does k b.now acts does.0))
+      (λ why unjudged none. subst (AreFree group s) (sym none.0) tt) is
+
+  session_free : (log : List Transfer) → AllSent IsSuch log → (ts : List Said) → AreSaid log ts → (k : Known) (s : Session)
+      → AreFree group [] s → (later : Known) (all : Session) → Lead k s ts later all → AreFree group [] all
+  session_free [] such [] is k s free later all leads = subst (AreFree group []) (sym leads.1) free
+  session_free (sent frame result ∷ log) such (said.Request b ∷ ts) is k s free later all (acts, known, are, leads) =
+      session_free log such.1 ts is.1 known (s ++ acts)
+      (free_append group [] s acts free (request_free k s b acts known (subst IsSuch (sym is.0) such.0) are)) later all leads
+  session_free (received frame ∷ log) such (said.Written b t ∷ ts) is k s free later all (acts, known, are, leads) =
+      session_free log such ts is.1 known (s ++ acts)
+      (free_append group [] s acts free (calm_free group within s acts (written_is_calm k s b t acts known are))) later all leads
+  session_free (unsent frame end ∷ log) such (said.Ended ∷ ts) is k s free later all (acts, known, are, leads) =
+      session_free log such ts is.1 known (s ++ acts)
+      (free_append group [] s acts free (calm_free group within s acts (ended_calm k s acts known are))) later all leads
+  session_free (stopped end ∷ log) such (said.Ended ∷ ts) is k s free later all (acts, known, are, leads) =
+      session_free log such ts is.1 known (s ++ acts)
+      (free_append group [] s acts free (calm_free group within s acts (ended_calm k s acts known are))) later all leads
+  session_free log such ts is k s free later all leads = absurd search
+
+  pub single_free : (log : List Transfer) → AllSent IsSuch log → IsFreeOf group log
+  single_free log such s (ts, is, k, (acts, known, are, leads)) place f has of =
+      let first : acts ≡ act.SeveralReaders ∷ [] = are.0 in
+      never_at group [] s (session_free log such ts is known acts (subst (AreFree group []) (sym first)
+      (calm_free group within [] (act.SeveralReaders ∷ []) refl)) k s leads) place f has of
+
+-- ---- INTERRUPTs
+
+interrupts_within : (f : Fault) → is_of_interrupt_numbers f ≡ true → is_of_numbers f ≡ true
+interrupts_within fault.InterruptUnderAnotherNumber is = refl
+interrupts_within f is = absurd (false≢true is)
+
+reading_apart : (s : Session) (u : ℕ) (f : Fault) → BreaksNumber s u f → is_of_interrupt_numbers f ≡ true → ⊥
+reading_apart s u fault.OddNumber b is = false≢true is
+reading_apart s u fault.NumberUsedTwice b is = false≢true is
+reading_apart s u fault.NumberOutOfOrder b is = false≢true is
+reading_apart s u f b is = b
+
+forgets_apart : (s : Session) (pairs : List (ℕ × ℕ)) → AreFree is_of_interrupt_numbers s (forgets_in pairs)
+forgets_apart s [] = tt
+forgets_apart s (p ∷ pairs) = (λ f b is. one f b is, forgets_apart (s ++ act.Forgets p.0 p.1 ∷ []) pairs)
+  where
+    one : (f : Fault) → Breaks s (act.Forgets p.0 p.1) f → is_of_interrupt_numbers f ≡ true → ⊥
+    one fault.ForgetOfTheRoot b is = cc
+    one fault.ForgetOfNoLookup b is = cc
+    one fault.ForgetOfMoreThanIsCounted b is = cc
+    one fault.ForgetOfANodeInUse b is = cc
+    one f b is = b
+
+again_apart : (s : Session) (u o : ℕ) (f : Fault) → Breaks s (act.Resent u o) f → is_of_interrupt_numbers f ≡ true → ⊥
+again_apart s u o fault.ResendOfNothing b is = cc
+again_apart s u o f b is = b
+
+right_free : (s : Session) (u o : ℕ) → u ≡ o + 1 → (f : Fault) → Breaks s (act.Interrupts u o) f
+    → is_of_interrupt_numbers f ≡ true → ⊥
+right_free s u o right fault.InterruptUnderAnotherNumber b is = b right
+right_free s u o right fault.InterruptOfNothing b is = cc
+right_free s u o right fault.InterruptTooOften b is = cc
+right_free s u o right f b is = b
+
+abbrev pub front : Opcode → List Act
+front o = act.Arrives ∷ act.Begins o ∷ []
+
+abbrev group : Fault → Bool
+group = is_of_interrupt_numbers
+
+front_free : (s : Session) (o : Opcode) (more : List Act) → AreFree is_of_interrupt_numbers (s ++ front o) more
+    → AreFree is_of_interrupt_numbers s (front o ++ more)
+front_free s o more free = free_append is_of_interrupt_numbers s (front o) more
+    (calm_free is_of_interrupt_numbers interrupts_within s (front o) refl) free
+
+interrupts_shown : ShowsNoneBy is_of_interrupt_numbers IsInterruptRight
+interrupts_shown agreed frame s acts right (reads other before after calm calm_after o same) =
+    subst (AreFree is_of_interrupt_numbers s) (sym same)
+    (free_append is_of_interrupt_numbers s before (act.Read o (unique_in frame) ∷ after)
+    (calm_free is_of_interrupt_numbers interrupts_within s before calm) (
+      reading_apart (s ++ before) (unique_in frame),
+      calm_free is_of_interrupt_numbers interrupts_within (s ++ before ++ act.Read o (unique_in frame) ∷ []) after calm_after,
+    ))
+interrupts_shown agreed frame s acts right (forgets_one m is same) =
+    let pairs : List (ℕ × ℕ) = (m.nodeid, number_of (number_in (places_at op.Forget).forgotten m.fixed)) ∷ [] in
+    let read : Act = act.Read (Some op.Forget) (unique_in frame) in
+    subst (AreFree is_of_interrupt_numbers s) (sym same) (front_free s op.Forget (read ∷ forgets_in pairs)
+    (reading_apart (s ++ front op.Forget) (unique_in frame), forgets_apart (s ++ front op.Forget ++ read ∷ []) pairs))
+interrupts_shown agreed frame s acts right (forgets_many m is same) =
+    let pairs : List (ℕ × ℕ) = pairs_of_row (row_at op.BatchForget).tail m.tail in
+    let read : Act = act.Read (Some op.BatchForget) (unique_in frame) in
+    subst (AreFree is_of_interrupt_numbers s) (sym same) (front_free s op.BatchForget (read ∷ forgets_in pairs)
+    (reading_apart (s ++ front op.BatchForget) (unique_in frame), forgets_apart (s ++ front op.BatchForget ++ read ∷ []) pairs))
+interrupts_shown agreed frame s acts right (interrupts m is same) =
+    let original : ℕ = number_of (number_in (places_at op.Interrupt).interrupted m.fixed) in
+    let unique : unique_in frame ≡ original + 1 =
+    right (ap (λ (n : ℕ). nat_eq n 36) is.opcode) ∙ ap (λ (n : ℕ). n + 1) (sym (interrupted_at agreed frame m is)) in
+    subst (AreFree is_of_interrupt_numbers s) (sym same)
+    (front_free s op.Interrupt (act.Interrupts (unique_in frame) original ∷ [])
+    (right_free (s ++ front op.Interrupt) (unique_in frame) original unique, tt))
+interrupts_shown agreed frame s acts right (comes_again high other o m same) =
+    subst (AreFree is_of_interrupt_numbers s) (sym same)
+    (front_free s o (act.Resent m.unique _ ∷ act.Asks m.unique (asked_of o m) ∷ [])
+    (again_apart (s ++ front o) m.unique _, ((λ f b is. b), tt)))
+interrupts_shown agreed frame s acts right (nothing calm) = calm_free is_of_interrupt_numbers interrupts_within s acts calm
+
+pub interrupt_numbers_never : NeverAccused is_of_interrupt_numbers
+interrupt_numbers_never asks log new run =
+    single_free is_of_interrupt_numbers interrupts_within IsInterruptRight interrupts_shown log (run_right asks log new run)

@@ -1,0 +1,30 @@
+-- The groups of faults of which the kernel that `drive` is never accused.
+use Rattle.std.specs.Prelude.{Bool, true, false}
+use Rattle.fuse_sessions.specs.declared.fault.Fault.{Fault}
+use Rattle.fuse_sessions.specs.declared.fault.Fault.TheVariants as fault
+
+-- A request that is no INTERRUPT has an odd number.
+abbrev pub is_of_odd_numbers : Fault → Bool
+is_of_odd_numbers fault.OddNumber = true
+is_of_odd_numbers f = false
+
+-- A request has the number of another.
+abbrev pub is_of_used_numbers : Fault → Bool
+is_of_used_numbers fault.NumberUsedTwice = true
+is_of_used_numbers f = false
+
+-- An INTERRUPT has not its request's number with the lowest bit set.
+abbrev pub is_of_interrupt_numbers : Fault → Bool
+is_of_interrupt_numbers fault.InterruptUnderAnotherNumber = true
+is_of_interrupt_numbers f = false
+
+-- The root is forgotten, or no lookup of a node.
+abbrev pub is_of_empty_forgets : Fault → Bool
+is_of_empty_forgets fault.ForgetOfTheRoot = true
+is_of_empty_forgets fault.ForgetOfNoLookup = true
+is_of_empty_forgets f = false
+
+-- A request is none of a row.
+abbrev pub is_of_shapes : Fault → Bool
+is_of_shapes fault.MalformedRequest = true
+is_of_shapes f = false

@@ -1,0 +1,3 @@
+pub mod Groups
+pub mod Transfers
+pub mod Driven

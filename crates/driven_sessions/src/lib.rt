@@ -1,0 +1,13 @@
+//! A kernel that keeps the rules is never accused: of what the kernel of `fk_drive` sends, over any device and whatever
+//! server is at its other side, the definitions of `fuse_sessions` have no fault.
+//!
+//! Both crates are proved against definitions of their own: `drive` does what `Drives` says, and a judge names
+//! exactly the faults of `Breaks`. Here the two are held against each other, group of faults by group.
+#![tactic(auto)]
+
+mod never_accused;
+
+pub use never_accused::{
+    forgets_are_of_lookups, frames_are_requests, interrupts_have_their_numbers, numbers_are_even,
+    numbers_are_used_once, requests_are_whole,
+};

@@ -1,0 +1,40 @@
+//! The groups of faults of which the kernel is never accused.
+
+ghost use Rattle.std.specs.Prelude.{Bool, List};
+ghost use Rattle.fuse_device.specs.Transfers.{Transfer};
+ghost use Rattle.fk_drive.specs.Driving.{Driven, Drives, first_driven};
+ghost use Rattle.driven_sessions.specs.Transfers.{AllSent, IsShaped};
+ghost use Rattle.driven_sessions.specs.Driven.{NeverAccused, NeverAccusedInOneMount, NeverAccusedWhereCarried};
+ghost use Rattle.driven_sessions.specs.Groups.{is_of_empty_forgets, is_of_interrupt_numbers, is_of_odd_numbers, is_of_shapes, is_of_used_numbers};
+
+/// Each frame that is sent is a request of a row, under each agreement that carries the codec's frames: no extensions, names
+/// of 255 bytes, and a minor version from 12 on.
+pub fn frames_are_requests()
+    ensures { (asks : Bool) (log : List Transfer) (new : Driven) → Drives (first_driven asks) log new → AllSent IsShaped log }
+{}
+
+/// No request is malformed, where each agreement of the session carries the codec's frames, as before INIT's reply.
+pub fn requests_are_whole()
+    ensures { NeverAccusedWhereCarried is_of_shapes }
+{}
+
+/// Each FORGET and BATCH_FORGET is of lookups, and of no root, however often the kernel mounts.
+pub fn forgets_are_of_lookups()
+    ensures { NeverAccused is_of_empty_forgets }
+{}
+
+/// Each INTERRUPT has its request's number with the lowest bit set, however often the kernel mounts.
+pub fn interrupts_have_their_numbers()
+    ensures { NeverAccused is_of_interrupt_numbers }
+{}
+
+/// Each request that is no INTERRUPT has an even number, however often the kernel mounts.
+pub fn numbers_are_even()
+    ensures { NeverAccused is_of_odd_numbers }
+{}
+
+/// No request has the number of another, in one mount: those of the kernel rise and stay below 2^62, where those of OPENDIR
+/// and RELEASEDIR begin.
+pub fn numbers_are_used_once()
+    ensures { NeverAccusedInOneMount is_of_used_numbers }
+{}
