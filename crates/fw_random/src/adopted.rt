@@ -6,16 +6,16 @@ use crate::text::{put, put_number, word_at};
 use fw_drive::NoLine;
 use std::alloc::Allocator;
 
-/// Makes a call of some words, a path or a number, and some words.
-fn make<A: Allocator + Copy>(
+/// Makes a call of some words and a path.
+fn make_at<A: Allocator + Copy>(
     alloc: A,
     beside: &mut Beside<A>,
     number: u64,
-    parts: [&[u8]; 3],
+    words: &[u8],
+    path: &[u8],
 ) -> Result<(), NoLine> {
-    let mut line = copied(alloc, parts[0])?;
-    put(&mut line, parts[1])?;
-    put(&mut line, parts[2])?;
+    let mut line = copied(alloc, words)?;
+    put(&mut line, path)?;
     let _answer = beside.make(number, line.as_slice())?;
     Ok(())
 }
@@ -27,7 +27,7 @@ fn adopt_file<A: Allocator + Copy>(
     number: u64,
     path: &[u8],
 ) -> Result<(), NoLine> {
-    make(alloc, beside, number, [b"call create ", path, b""])?;
+    make_at(alloc, beside, number, b"call create ", path)?;
     let mut close = copied(alloc, b"call close ")?;
     put_number(&mut close, number)?;
     let _answer = beside.make(number, close.as_slice())?;
@@ -49,7 +49,10 @@ fn adopt_bytes<A: Allocator + Copy>(
     put(&mut write, word_at(line, 2))?;
     put(&mut write, b" ")?;
     put(&mut write, word_at(line, 3))?;
-    make(alloc, beside, number, [write.as_slice(), b" ", bytes])
+    put(&mut write, b" ")?;
+    put(&mut write, bytes)?;
+    let _answer = beside.make(number, write.as_slice())?;
+    Ok(())
 }
 
 /// Does in the world beside what the answer to a call shows to be there: directories, files, and the bytes that are read.
@@ -64,14 +67,9 @@ pub(crate) fn adopt<A: Allocator + Copy>(
         return Ok(());
     }
     match (word_at(line, 1), word_at(answer, 1)) {
-        (b"stat", b"dir") => make(
-            alloc,
-            beside,
-            number,
-            [b"call mkdir ", word_at(line, 2), b""],
-        ),
+        (b"stat", b"dir") => make_at(alloc, beside, number, b"call mkdir ", word_at(line, 2)),
         (b"stat", b"file") => adopt_file(alloc, beside, number, word_at(line, 2)),
-        (b"open" | b"close", _) => make(alloc, beside, number, [line, b"", b""]),
+        (b"open" | b"close", _) => make_at(alloc, beside, number, line, b""),
         (b"read", bytes) => adopt_bytes(alloc, beside, number, line, bytes),
         _ => Ok(()),
     }
