@@ -108,12 +108,14 @@ fn have_same_names(one: &[u8], other: &[u8]) -> bool {
     count_names(one) == count_names(other) && is_within(one, other)
 }
 
-/// Whether the answers have the same kind, and where it is no directory's the same size and number of links.
-fn have_same_attributes(one: &[u8], other: &[u8]) -> bool {
+/// Whether the answers have the same kind, and where it is no directory's the same size, and the same number of links
+/// where that counts.
+fn have_same_attributes(one: &[u8], other: &[u8], counts_links: bool) -> bool {
     let kind = word_at(one, 1);
     kind == word_at(other, 1)
         && (kind == b"dir".as_slice()
-            || (word_at(one, 3) == word_at(other, 3) && word_at(one, 4) == word_at(other, 4)))
+            || (word_at(one, 3) == word_at(other, 3)
+                && (!counts_links || word_at(one, 4) == word_at(other, 4))))
 }
 
 /// What stands in a listing behind the record with this offset, if it has that.
@@ -161,13 +163,14 @@ pub(crate) fn is_done(answer: &[u8]) -> bool {
 }
 
 /// Whether two answers to the call of a line say the same. Inode numbers, offsets, the sizes and links of directories, and
-/// the order of names are each server's own.
-pub(crate) fn are_alike(line: &[u8], one: &[u8], other: &[u8]) -> bool {
+/// the order of names are each server's own. Links do not count beside a change: a file that is found before it is removed
+/// may have one less, or none.
+pub(crate) fn are_alike(line: &[u8], one: &[u8], other: &[u8], counts_links: bool) -> bool {
     if !is_done(one) || !is_done(other) {
         return one == other;
     }
     match word_at(line, 1) {
-        b"stat" => have_same_attributes(one, other),
+        b"stat" => have_same_attributes(one, other, counts_links),
         b"list" | b"listplus" => have_same_names(one, other),
         _ => one == other,
     }

@@ -199,6 +199,7 @@ impl<A: Allocator + Copy> Group<A> {
         out: &mut W,
     ) -> Result<u64, NoLine> {
         let mut wrong: u64 = 0;
+        let is_alone = !self.has_change();
         for called in self.calls.iter_mut() {
             let line = called.line.as_slice();
             let answer = called.answer.as_slice();
@@ -213,7 +214,7 @@ impl<A: Allocator + Copy> Group<A> {
                 )
             } else {
                 let here = beside.make(called.number, line)?;
-                (are_alike(line, answer, here.as_slice()), here)
+                (are_alike(line, answer, here.as_slice(), is_alone), here)
             };
             called.is_right = is_right || (self.is_signalled && is_interrupted(answer));
             if says && !called.is_right {
@@ -307,7 +308,7 @@ fn is_right<A: Allocator + Copy>(
     answer: &[u8],
     here: &[u8],
 ) -> Result<bool, NoLine> {
-    if are_alike(line, answer, here) || is_refused_as_above(line, answer, here) {
+    if are_alike(line, answer, here, true) || is_refused_as_above(line, answer, here) {
         return Ok(true);
     }
     if !is_made_otherwise(line, answer, here) {
@@ -316,5 +317,5 @@ fn is_right<A: Allocator + Copy>(
     let mut open = copied(alloc, b"call open ")?;
     put(&mut open, word_at(line, 2))?;
     let opened = beside.make(number, open.as_slice())?;
-    Ok(are_alike(open.as_slice(), answer, opened.as_slice()))
+    Ok(are_alike(open.as_slice(), answer, opened.as_slice(), true))
 }
