@@ -352,7 +352,7 @@ def shrunk(folder, bug, printed):
 
 
 def run_bug(folder, bug):
-    words = ["--any"] if bug in drive_server.OPENING_BUGS else []
+    words = ["--any"] if bug in (*drive_server.OPENING_BUGS, "each offset is one too far") else []
     found, first = [], None
     for seed in SEEDS:
         printed, _, _ = explore(folder, command_of(bug), chosen(seed, words))

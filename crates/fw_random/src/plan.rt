@@ -26,6 +26,8 @@ pub(crate) struct Plan<A: Allocator> {
     look: u64,
     /// Whether the nodes that are shown next are evicted.
     pub(crate) evicts: bool,
+    /// Whether calls are chosen too that Linux does not send.
+    is_any: bool,
 }
 
 /// Keeps a text behind others.
@@ -40,7 +42,7 @@ pub(crate) fn keep_text<A: Allocator>(
 }
 
 impl<A: Allocator + Copy> Plan<A> {
-    pub(crate) fn new(alloc: A) -> Self {
+    pub(crate) fn new(alloc: A, is_any: bool) -> Self {
         Plan {
             alloc,
             todo: Vec::new(alloc),
@@ -48,6 +50,7 @@ impl<A: Allocator + Copy> Plan<A> {
             paths: Vec::new(alloc),
             look: 0,
             evicts: false,
+            is_any,
         }
     }
 
@@ -179,7 +182,11 @@ impl<A: Allocator + Copy> Plan<A> {
             b"list" if word_at(line, 3) == b"0".as_slice() => {
                 let names = words_behind(answer, 1);
                 self.look_at(word_at(line, 2), names)?;
-                self.list_on(word_at(line, 2), names)
+                // Of a directory that was just opened Linux asks for the first page.
+                if self.is_any {
+                    self.list_on(word_at(line, 2), names)?;
+                }
+                Ok(())
             }
             b"open" => {
                 self.put_numbered(b"call close ", number, b"")?;

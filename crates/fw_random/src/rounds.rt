@@ -32,7 +32,7 @@ impl<A: Allocator + Copy> Rounds<A> {
             alloc,
             chance: Chance::new(seed),
             known: Known::new(alloc),
-            plan: Plan::new(alloc),
+            plan: Plan::new(alloc, !is_linux),
             beside: Beside::new(alloc)?,
             is_linux,
         })
