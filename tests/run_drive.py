@@ -546,13 +546,13 @@ def run_check():
         judge("--check of a second reply", (lines, status), ([*begun, *two[:2], f"frame {number}: {said}", *two[2:]], 6))
         judge("its capture", (len(capture), capture[-4::2], capture[-1]), (number, [f"< {AGREES[0].hex()}", f"< {ATTR.hex()}"], f"< {ATTR.hex()} ENOENT"))
         judge("its first line", capture[0] == "= several readers", not words)
-        judge("check of it", (judged, found), ([f"line {number}: {said}"], 6))
+        judge("check of it", (judged, found), ([f"line {number}: {said}; GETATTR read at line {number - 2}; answered at line {number - 1}"], 6))
     said = "server: body that is not its request's"
     lines, status, capture, judged, found = on_captured(["--check"], STAT, AGREES, [reply(4, bytes(8))])
     judge("--check of a short body", (lines, status),
           ([*begun, f"frame 5: {said}", "written 4 22", "body is not its request's", "answer 1 5", "kernel"], 6))
     judge("check of its capture", (capture[-1], judged, found), (f"< {reply(4, bytes(8)).hex()} EINVAL", [f"line 5: {said}"], 6))
-    judge("without --check", on_captured([], STAT, AGREES, [reply(4, bytes(8))])[1:], (0, capture, judged, found))
+    judge("without --check", on_captured([], STAT, AGREES, [reply(4, bytes(8))])[1:], (6, capture, judged, found))
     judge("--check of no reply", on_captured([*SHORT_WAIT, "--check"], STAT, AGREES)[:2], ([*STATED, "no reply"], 4))
     lines = drive(["--capture", "/dev/full"], STAT, answering(AGREES, [ATTR]))
     judge("a full file", lines[:2], ([*STATED, *ANSWERED, "capture refused"], 0))

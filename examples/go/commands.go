@@ -36,7 +36,7 @@ func Drive(script []string, serve func(net.Conn), options ...string) ([]string, 
 	if len(options) == 0 {
 		options = []string{"--beside"}
 	}
-	return linesOf(program(append(append([]string{"drive"}, options...), file, path)...), 4)
+	return linesOf(program(append(append([]string{"drive"}, options...), file, path)...), 0, 4, 6)
 }
 
 // Fault is a rule that a session breaks, or what is odd in it (Event "warning").
@@ -49,7 +49,7 @@ type Fault struct {
 func Check(capture []string) ([]Fault, error) {
 	judge := program("check", "--json")
 	judge.Stdin = strings.NewReader(strings.Join(capture, "\n") + "\n")
-	lines, err := linesOf(judge, 6)
+	lines, err := linesOf(judge, 0, 6)
 	var faults []Fault
 	for _, line := range lines {
 		var fault Fault
@@ -63,13 +63,17 @@ func Check(capture []string) ([]Fault, error) {
 	return faults, err
 }
 
-// linesOf gives what a program prints where it ends with status 0 or another one; else an error with what it said.
-func linesOf(ran *exec.Cmd, other int) ([]string, error) {
+// linesOf gives what a program prints where it ends with one of these statuses; else an error with what it said.
+func linesOf(ran *exec.Cmd, statuses ...int) ([]string, error) {
 	var said bytes.Buffer
 	ran.Stderr = &said
 	out, err := ran.Output()
-	if state := ran.ProcessState; state != nil && len(out) > 0 && (state.ExitCode() == 0 || state.ExitCode() == other) {
-		return strings.Split(strings.TrimSpace(string(out)), "\n"), nil
+	if state := ran.ProcessState; state != nil && len(out) > 0 {
+		for _, status := range statuses {
+			if state.ExitCode() == status {
+				return strings.Split(strings.TrimSpace(string(out)), "\n"), nil
+			}
+		}
 	}
 	return nil, fmt.Errorf("fuseworld: %v: %s", err, strings.TrimSpace(said.String()))
 }

@@ -119,7 +119,7 @@ def drive(script, server, *options, seconds=60):
         ran = subprocess.run(words, stdin=subprocess.DEVNULL, capture_output=True, text=True, timeout=seconds)
         if callable(server):
             listener.close()
-    if ran.returncode not in (0, 4) or not ran.stdout:
+    if ran.returncode not in (0, 4, 6) or not ran.stdout:
         raise RuntimeError(f"fuseworld drive: status {ran.returncode}: {ran.stderr.strip()}")
     lines = ran.stdout.splitlines()
     return Driven(lines, [line for line in lines if FAULT.match(line)], ran.returncode)

@@ -103,7 +103,7 @@ pub fn drive(script: &[&str], options: &[&str], serve: impl FnOnce(UnixStream) +
         program().arg("drive").args(options).args([&file, &path]).stdin(Stdio::null()).output()
     })();
     std::fs::remove_dir_all(&folder)?;
-    lines(ran?, &[0, 4])
+    lines(ran?, &[0, 4, 6])
 }
 
 /// Judges the lines of a capture: `> HEX` a request, `< HEX` a reply. Gives an object for each fault and warning, and last
