@@ -217,7 +217,7 @@ def checked(turns):
         path = Path(folder) / "capture"
         on_packets("judged", ["--check", "--capture", path], greedy, [f"frame 5: {fault}"], 6)
         done = subprocess.run([PROGRAM, "check", path], capture_output=True, timeout=SECONDS, text=True)
-        judge("judged: its capture", (done.stdout.splitlines()[0], done.returncode), (f"line 5: {fault}", 6))
+        judge("judged: its capture", (done.stdout.splitlines()[0], done.returncode), (f"line 5: {fault}; given at line 4, inode 2, count 1", 6))
     on_packets("not judged", [], greedy, [], 0)
     # The fault does not hide that the device failed.
     on_stream("judged, the end in a frame", ["--check"], b"".join(frame for frame, _ in greedy) + INIT[:30],
