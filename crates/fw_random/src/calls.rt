@@ -102,14 +102,28 @@ fn put_call<A: Allocator + Copy, B: Allocator>(
     put_path(chance, plan, line)
 }
 
-/// Writes a call with two paths.
+/// Appends a path under which something was once, if there is one.
+fn put_known_path<A: Allocator + Copy, B: Allocator>(
+    chance: &mut Chance,
+    plan: &Plan<A>,
+    line: &mut Vec<u8, B>,
+) -> Result<(), NoLine> {
+    let place = chance.below(plan.paths.len() as u64) as usize;
+    match plan.paths.as_slice().get(place) {
+        Some(path) => put(line, path.as_slice()),
+        None => put_path(chance, plan, line),
+    }
+}
+
+/// Writes a call with two paths. Linux sends it only where the first is there.
 fn put_call_of_two<A: Allocator + Copy, B: Allocator>(
     chance: &mut Chance,
     plan: &Plan<A>,
     line: &mut Vec<u8, B>,
     call: &[u8],
 ) -> Result<(), NoLine> {
-    put_call(chance, plan, line, call)?;
+    put(line, call)?;
+    put_known_path(chance, plan, line)?;
     put(line, b" ")?;
     put_path(chance, plan, line)
 }
@@ -247,14 +261,14 @@ pub(crate) fn put_change<A: Allocator + Copy, B: Allocator>(
     plan: &Plan<A>,
     line: &mut Vec<u8, B>,
 ) -> Result<(), NoLine> {
-    match chance.below(20) {
+    match chance.below(22) {
         0..=2 => put_call(chance, plan, line, b"call mkdir "),
         3..=6 => put_call(chance, plan, line, b"call create "),
         7 | 8 => put_call(chance, plan, line, b"call unlink "),
         9 => put_call(chance, plan, line, b"call rmdir "),
         10..=12 => put_call_of_two(chance, plan, line, b"call rename "),
-        13 => put_call_of_two(chance, plan, line, b"call link "),
-        14 | 15 => put_open(chance, plan, line),
+        13..=15 => put_call_of_two(chance, plan, line, b"call link "),
+        16 | 17 => put_open(chance, plan, line),
         _ if !known.open.is_empty() => put_change_of_file(chance, known, line),
         _ => put_call(chance, plan, line, b"call create "),
     }

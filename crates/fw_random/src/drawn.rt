@@ -256,7 +256,7 @@ impl<A: Allocator + Copy> RandomLines<A> {
         if self.rounds.plan.round.is_empty() {
             if self.unlooked == 0 {
                 self.unlooked = LOOK;
-                self.rounds.plan.begin_look()?;
+                self.rounds.plan.begin_look(false)?;
             } else {
                 self.rounds.begin()?;
                 self.is_burst = self.rounds.plan.round.len() > 1;
@@ -317,7 +317,8 @@ impl<A: Allocator + Copy> RandomLines<A> {
         line: &mut Vec<u8, B>,
     ) -> Result<bool, NoLine> {
         if self.drawn == 0 {
-            self.rounds.plan.begin_look()?;
+            // Once all was forgotten, what READDIRPLUS gives is counted by that alone.
+            self.rounds.plan.begin_look(self.forgotten == 1)?;
         }
         if self.put_todo(standing, line)? || self.put_frame(standing, line)? {
             return Ok(true);

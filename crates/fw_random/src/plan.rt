@@ -24,6 +24,8 @@ pub(crate) struct Plan<A: Allocator> {
     pub(crate) paths: Vec<Vec<u8, A>, A>,
     /// How many lines the look over the tree may still add. None while there is no look.
     look: u64,
+    /// Whether the look lists directories with READDIRPLUS, so that a name is used by what that gave.
+    lists_entries: bool,
     /// Whether the nodes that are shown next are evicted.
     pub(crate) evicts: bool,
     /// Whether calls are chosen too that Linux does not send.
@@ -49,6 +51,7 @@ impl<A: Allocator + Copy> Plan<A> {
             round: Vec::new(alloc),
             paths: Vec::new(alloc),
             look: 0,
+            lists_entries: false,
             evicts: false,
             is_any,
         }
@@ -86,11 +89,22 @@ impl<A: Allocator + Copy> Plan<A> {
         keep_text(&mut self.todo, line)
     }
 
-    /// A look over the tree comes.
-    pub(crate) fn begin_look(&mut self) -> Result<(), NoLine> {
+    /// The words that list a directory in a look.
+    fn listing(&self) -> &'static [u8] {
+        if self.lists_entries {
+            b"call listplus "
+        } else {
+            b"call list "
+        }
+    }
+
+    /// A look over the tree comes, which lists directories with the entries of their names, or without.
+    pub(crate) fn begin_look(&mut self, lists_entries: bool) -> Result<(), NoLine> {
         self.look = LOOK;
+        self.lists_entries = lists_entries;
+        let listing = self.listing();
         self.put_first(b"call stat /")?;
-        self.put_first(b"call list / 0")
+        self.put_with(listing, b"/ 0", b"")
     }
 
     /// Whether a look over the tree is under way.
@@ -167,8 +181,9 @@ impl<A: Allocator + Copy> Plan<A> {
         match kind {
             b"dir" if path == b"/".as_slice() => Ok(()),
             b"dir" => {
+                let listing = self.listing();
                 self.put_first(b"call stat /")?;
-                self.put_with(b"call list ", path, b" 0")
+                self.put_with(listing, path, b" 0")
             }
             b"file" => self.put_with(b"call open ", path, b" r"),
             _ => Ok(()),
@@ -179,11 +194,11 @@ impl<A: Allocator + Copy> Plan<A> {
     fn look_on(&mut self, number: u64, line: &[u8], answer: &[u8]) -> Result<(), NoLine> {
         match word_at(line, 1) {
             b"stat" => self.look_into(word_at(line, 2), word_at(answer, 1)),
-            b"list" if word_at(line, 3) == b"0".as_slice() => {
+            b"list" | b"listplus" if word_at(line, 3) == b"0".as_slice() => {
                 let names = words_behind(answer, 1);
                 self.look_at(word_at(line, 2), names)?;
                 // Of a directory that was just opened Linux asks for the first page.
-                if self.is_any {
+                if self.is_any && !self.lists_entries {
                     self.list_on(word_at(line, 2), names)?;
                 }
                 Ok(())
