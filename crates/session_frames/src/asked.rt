@@ -116,6 +116,7 @@ fn looks_up(request: &Request<'_>, name: &[u8]) -> bool
 }
 
 /// What a request asks.
+#[inline(always)]
 pub(crate) fn asked_of(request: &Request<'_>) -> Asked
     ensures { result ≡ words.asked_of request.now.head.opcode (request_message request.now) }
 {

@@ -1,10 +1,13 @@
 //! Whether the device is to accept the body of a reply.
 
 ghost use Rattle.std.specs.Prelude.{◌≡◌, ◌≤◌, length};
+ghost use Rattle.fuse_protocol.specs.Table.{row_at};
+ghost use Rattle.fuse_replies.specs.Replies.{IsReply, reply_message};
 ghost use Rattle.fuse_sessions.specs.Fits as words;
 
 use fk_fields::u32_at;
-use fuse_protocol::ReplyShape as Reply;
+use fuse_protocol::{Agreed, Opcode, ReplyShape, row_of};
+use fuse_replies::{Answer, Reply};
 use fuse_sessions::Fit;
 
 /// A body that fits, or does not.
@@ -22,31 +25,32 @@ fn may_unless(fits: bool) -> Fit
 }
 
 /// A body of so many bytes behind no error, where so many were asked for.
-fn fit_of(shape: Reply, asked: u32, size: usize) -> Fit
+fn fit_of(shape: ReplyShape, asked: u32, size: usize) -> Fit
     ensures { result ≡ words.fit_of shape asked size }
 {
     match shape {
-        Reply::None => Fit::MayFit,
-        Reply::Empty => fits_if(size == 0),
-        Reply::Entry => fits_if(size == 128),
-        Reply::Attributes => fits_if(size == 104),
-        Reply::Open => fits_if(size == 16),
-        Reply::EntryAndOpen => fits_if(size == 144),
-        Reply::Number(_) => fits_if(size == 8),
-        Reply::Fixed(count) => fits_if(size == count),
-        Reply::Sized(_) if asked == 0 => fits_if(size == 8),
-        Reply::AtMost(_) | Reply::Records(_) | Reply::EntryRecords(_) | Reply::Sized(_) => {
-            fits_if(size <= asked as usize)
-        }
-        Reply::Target => may_unless(size < 4096),
-        Reply::Ioctl if size < 16 => Fit::FitsNot,
-        Reply::Ioctl => may_unless(size <= 4112),
-        Reply::Init => fits_if(size <= 64),
+        ReplyShape::None => Fit::MayFit,
+        ReplyShape::Empty => fits_if(size == 0),
+        ReplyShape::Entry => fits_if(size == 128),
+        ReplyShape::Attributes => fits_if(size == 104),
+        ReplyShape::Open => fits_if(size == 16),
+        ReplyShape::EntryAndOpen => fits_if(size == 144),
+        ReplyShape::Number(_) => fits_if(size == 8),
+        ReplyShape::Fixed(count) => fits_if(size == count),
+        ReplyShape::Sized(_) if asked == 0 => fits_if(size == 8),
+        ReplyShape::AtMost(_)
+        | ReplyShape::Records(_)
+        | ReplyShape::EntryRecords(_)
+        | ReplyShape::Sized(_) => { fits_if(size <= asked as usize) }
+        ReplyShape::Target => may_unless(size < 4096),
+        ReplyShape::Ioctl if size < 16 => Fit::FitsNot,
+        ReplyShape::Ioctl => may_unless(size <= 4112),
+        ReplyShape::Init => fits_if(size <= 64),
     }
 }
 
 /// Whether the device is to accept the body of a reply's frame, where so many bytes were asked for.
-pub(crate) fn fit_in(shape: Reply, asked: u32, bytes: &[u8]) -> Fit
+pub(crate) fn fit_in(shape: ReplyShape, asked: u32, bytes: &[u8]) -> Fit
     requires { 16 ≤ length bytes.now }
     ensures { result ≡ words.fit_in shape asked bytes.now }
 {
@@ -54,6 +58,26 @@ pub(crate) fn fit_in(shape: Reply, asked: u32, bytes: &[u8]) -> Fit
         fit_of(shape, asked, bytes.len() - 16)
     } else {
         fits_if(bytes.len() == 16)
+    }
+}
+
+/// Whether the device is to accept the body of what is a reply to a request of an opcode. It looks at sizes, as the reading
+/// of a reply does, which leaves open what it takes of bytes alone: of IOCTL.
+#[inline(always)]
+pub(crate) fn fit_of_reply(
+    agreed: Agreed,
+    opcode: Opcode,
+    asked: u32,
+    bytes: &[u8],
+    reply: &Reply<'_>,
+) -> Fit
+    requires { IsReply agreed (row_at opcode).reply asked bytes.now (reply_message reply.now) }
+    ensures { result ≡ words.fit_in (row_at opcode).reply asked bytes.now }
+{
+    let _ = agreed;
+    match reply.answer {
+        Answer::Bytes(_) => fit_in(row_of(opcode).reply, asked, bytes),
+        _ => Fit::Fits,
     }
 }
 

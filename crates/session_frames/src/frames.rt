@@ -82,6 +82,7 @@ fn write_read_transfer<A: Allocator + Copy>(
 /// # Errors
 ///
 /// Out of memory.
+#[inline(always)]
 pub fn write_transfer<A: Allocator + Copy>(
     acts: &mut Vec<Act, A>,
     known: &Known,

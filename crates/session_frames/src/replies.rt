@@ -1,15 +1,19 @@
 //! The acts of what the server writes.
 
-ghost use Rattle.std.specs.Prelude.{◌≡◌, ◌≤◌, ◌↔◌, [], ◌++◌, IfOk, IsTrue, OnOk, length, unwrap_or};
+ghost use Rattle.std.specs.Prelude.{◌≡◌, ◌≤◌, ◌↔◌, [], ◌∷◌, ◌++◌, IfOk, IsTrue, OnOk, length, unwrap_or};
 ghost use Rattle.std.specs.Option.{option_copied};
+ghost use Rattle.fuse_protocol.specs.Table.{row_at};
 ghost use Rattle.fuse_replies.specs.Replies.{IsFrame, answer_content};
+ghost use Rattle.fuse_sessions.specs.declared.act.Act.TheVariants.{Faulty};
+ghost use Rattle.fuse_sessions.specs.declared.fault.Fault.TheVariants.{BodyOfAnotherRequest};
+ghost use Rattle.fuse_sessions.specs.Fits as fits;
 ghost use Rattle.fuse_sessions.specs.Frames as words;
 ghost use Rattle.fuse_sessions.specs.Sessions.{Session};
 ghost use Rattle.fuse_sessions.specs.Waiting.{waits};
 
 use crate::answers::write_answer;
 use crate::entries::write_records;
-use crate::fits::{fit_in, fit_of_another};
+use crate::fits::{fit_in, fit_of_another, fit_of_reply};
 use crate::init::{known_after_reply, write_init};
 use crate::writing::write;
 use fk_fields::{u32_at, u64_at};
@@ -161,6 +165,25 @@ fn write_listed<A: Allocator + Copy>(
     }
 }
 
+/// What is no reply to the request of an opcode that waits under its number.
+fn write_another<A: Allocator + Copy>(
+    acts: &mut Vec<Act, A>,
+    opcode: Opcode,
+    asked: &Asked,
+    bytes: &[u8],
+    taken: Taken,
+) -> Result<(), AllocError>
+    requires { IsFrame bytes.now }
+    ensures { OnOk result (acts.new.items ≡ acts.old.items ++ (Faulty BodyOfAnotherRequest
+        ∷ (words.replied bytes.now taken (fits.fit_of_another (fits.fit_in (row_at opcode).reply asked.now.asked bytes.now))
+        ++ words.listed_acts opcode asked.now taken bytes.now))) }
+{
+    let fit = fit_in(row_of(opcode).reply, asked.asked, bytes);
+    write(acts, Act::Faulty(Fault::BodyOfAnotherRequest))?;
+    write_replied(acts, bytes, taken, fit_of_another(fit))?;
+    write_listed(acts, opcode, asked, bytes, taken)
+}
+
 /// A reply to a request of an opcode that waits. Returns what is known after it, where that is new.
 fn write_answered<A: Allocator + Copy>(
     acts: &mut Vec<Act, A>,
@@ -175,7 +198,6 @@ fn write_answered<A: Allocator + Copy>(
     ensures { IfOk result (λ later. words.IsReplyOf known.now bytes.now taken opcode asked.now acts.new.items
         (unwrap_or later known.now)) }
 {
-    let fit = fit_in(row_of(opcode).reply, asked.asked, bytes);
     let request = RequestHead {
         opcode,
         unique: u64_at(bytes, 8),
@@ -184,14 +206,13 @@ fn write_answered<A: Allocator + Copy>(
     };
     match &read_reply(known.agreed, &request, bytes) {
         Ok(reply) => {
+            let fit = fit_of_reply(known.agreed, opcode, asked.asked, bytes, reply);
             write_replied(acts, bytes, taken, fit)?;
             write_said(acts, known, opcode, asked, taken, &reply.answer)?;
             Ok(known_after_reply(known, taken, &reply.answer))
         }
         Err(_) => {
-            write(acts, Act::Faulty(Fault::BodyOfAnotherRequest))?;
-            write_replied(acts, bytes, taken, fit_of_another(fit))?;
-            write_listed(acts, opcode, asked, bytes, taken)?;
+            write_another(acts, opcode, asked, bytes, taken)?;
             Ok(None)
         }
     }
