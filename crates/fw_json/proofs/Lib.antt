@@ -1,0 +1,4 @@
+pub mod Feeds
+pub mod Finding
+pub mod Putting
+pub mod Written

@@ -1,0 +1,16 @@
+//! What `drive` prints, as JSON objects: one a line.
+#![tactic(auto)]
+
+mod event;
+mod field;
+mod judged;
+mod key;
+mod lines;
+mod object;
+mod parts;
+mod string;
+#[cfg(test)]
+mod tests;
+mod text;
+
+pub use lines::JsonLines;
