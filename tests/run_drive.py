@@ -20,7 +20,7 @@ from contextlib import contextmanager
 from pathlib import Path
 
 sys.dont_write_bytecode = True
-from drive_server import (BUGS, CREATE, FORGET, INIT, OPEN, OPENDIR, OPENDIR_BUGS, OPENING_BUGS, READDIR, RELEASEDIR, Server, agreement, received,
+from drive_server import (BUGS, CREATE, FORGET, INIT, MKDIR, OPEN, OPENDIR, OPENDIR_BUGS, OPENING_BUGS, READDIR, RELEASEDIR, Server, agreement, received,
                           reply, send)
 import judging
 from judging import judge
@@ -105,8 +105,8 @@ CALLED = ["mounted", "call 1", "answer 1 0", "call 2", "answer 2 0", "call 3", "
           "call 9", "answer 9 0", "call 10", "answer 10 0 file 4 0 1", "call 11", "answer 11 0 dir 1 0 1", "call 12", "answer 12 2",
           "kernel 2:0:1 3:0:1 4:0:1"]
 # How many of those lines are printed before each request is answered: INIT, MKDIR, CREATE, WRITE, GETATTR, RELEASE, OPENDIR,
-# READDIR, UNLINK, CREATE, RELEASE, GETATTR, GETATTR and LOOKUP. RELEASEDIR's reply is not waited for.
-BEFORE = [1, 2, 4, 6, 8, 11, 12, 12, 14, 16, 19, 20, 22, 24]
+# READDIR, RELEASEDIR, UNLINK, CREATE, RELEASE, GETATTR, GETATTR and LOOKUP.
+BEFORE = [1, 2, 4, 6, 8, 11, 12, 12, 12, 14, 16, 19, 20, 22, 24]
 MOUNT = ["mount 0 0", "read p 0", "write"]
 MOUNTED = ["mounted", "read 2 INIT 56", "written 2 0"]
 SIGNAL = [*MOUNT, "call stat /slow", "read p 0", "intr 1 soft", "read i", "write", "call stat /", "read p 0", "write"]
@@ -240,14 +240,12 @@ def run_abort():
 
 
 def run_closings():
-    """The server closes in the place of its K-th reply that is waited for."""
+    """The server closes in the place of its K-th reply."""
     for place, count in enumerate(BEFORE):
         server = Server()
 
         def peer(connection, left=place):
             for opcode, unique, node, body in received(connection):
-                if opcode == RELEASEDIR:
-                    continue
                 if left == 0:
                     return
                 left -= 1
@@ -276,7 +274,7 @@ def run_opendir():
     own = 1 << 62
     opened = reply(own, struct.pack("<QII", 7, 0, 0))
     begun = [*MOUNTED, "call 1", "read 4 GETATTR 56", "call 2"]
-    judge("a reply that comes before OPENDIR's waits", on_frames([], script, AGREES, [], [ATTR, opened], [reply(6)]),
+    judge("a reply that comes before OPENDIR's waits", on_frames([], script, AGREES, [], [ATTR, opened], [reply(6)], [reply(own + 2)]),
           ([*begun, "read 6 READDIR 80", *ANSWERED[:2], "written 6 0", "answer 2 0", "kernel"], 0))
     wrong = ["body is not its request's"]
     for said, error, lines in [(reply(own, error=13), 13, []), (reply(own, error=5), 5, []), (reply(own), 5, wrong), (reply(own, bytes(8)), 5, wrong)]:
@@ -301,8 +299,55 @@ def run_opendir_bugs():
     judge("an error of -512 to OPENDIR, and no other reply",
           on_frames(SHORT_WAIT, listing, AGREES, [struct.pack("<IiQ", 16, -512, own)]), ([*begun, "no reply's head", "no reply"], 4))
     judge("an error of 5 to OPENDIR, said once", on_frames([], [*listing, "write"], AGREES,
-          [struct.pack("<IiQ", 16, 5, own), reply(own, struct.pack("<QII", 7, 0, 0))], [reply(4)]),
+          [struct.pack("<IiQ", 16, 5, own), reply(own, struct.pack("<QII", 7, 0, 0))], [reply(4)], [reply(own + 2)]),
           ([*begun, "no reply's head", "read 4 READDIR 80", "written 0 22", "written 4 0", "answer 1 0", "kernel"], 6))
+
+
+def run_releasedir():
+    """No request is sent before RELEASEDIR is answered."""
+    own, opened = 1 << 62, reply(1 << 62, struct.pack("<QII", 7, 0, 0))
+    listing = [*MOUNT, "call list / 0", "read p 0", "write"]
+    listed = [*MOUNTED, "call 1", "read 4 READDIR 80", "written 4 0"]
+
+    def answering_late(seconds):
+        """A server that answers RELEASEDIR so many seconds later, or never."""
+        server = Server()
+
+        def peer(connection):
+            opcodes = []
+            for opcode, unique, node, body in received(connection):
+                opcodes.append(opcode)
+                if opcode == RELEASEDIR and seconds is None:
+                    continue
+                if opcode == RELEASEDIR:
+                    time.sleep(seconds)
+                send(connection, *server.frames(opcode, unique, node, body))
+            return opcodes
+        return peer
+
+    # The directory is evicted and forgotten as soon as it was listed.
+    evicting = [*MOUNT, "call mkdir /d", "read p 0", "write", "call list /d 0", "read p 0", "write", "drop 1 d", "evict 2", "read f 1"]
+    begun = [*MOUNTED, "call 1", "read 4 MKDIR 50", "written 4 0", "answer 1 0", "call 2", "read 6 READDIR 80", "written 6 0"]
+    sent = [INIT, MKDIR, OPENDIR, READDIR, RELEASEDIR]
+    judge("RELEASEDIR is answered late", drive(["--check"], evicting, answering_late(0.2)),
+          ([*begun, "answer 2 0", "dropped", "evicted 2 1", "read 8 FORGET 48", "kernel"], 0, [*sent, FORGET]))
+    judge("RELEASEDIR is not answered", drive([*SHORT_WAIT, "--check"], evicting, answering_late(None)), ([*begun, "no reply"], 4, sent))
+    judge("RELEASEDIR is not answered, by calls", drive([*SHORT_WAIT, "--calls"], ["call list / 0", "call stat /"], answering_late(None)),
+          (["mounted", "call 1", "no reply"], 4, [INIT, OPENDIR, READDIR, RELEASEDIR]))
+    judge("the server ends at RELEASEDIR", on_frames([], listing, AGREES, [opened], [reply(4)], [CLOSE]), ([*listed, "server ended"], 4))
+    judge("an error to RELEASEDIR", on_frames([], listing, AGREES, [opened], [reply(4)], [reply(own + 2, error=5)]),
+          ([*listed, "answer 1 0", "kernel"], 0))
+    two = [*MOUNT, "call list / 0", "call stat /", "read p 0", "read p 0", "write", "write"]
+    judge("a reply that comes before RELEASEDIR's waits",
+          on_frames([], two, AGREES, [opened], [], [reply(4)], [reply(6, ATTR[16:]), reply(own + 2)]),
+          ([*MOUNTED, "call 1", "call 2", "read 4 READDIR 80", "read 6 GETATTR 56", "written 4 0", "answer 1 0", "written 6 0",
+            "answer 2 0 dir 1 0 1", "kernel"], 0))
+    judge("an error of 5 to RELEASEDIR, and no other reply",
+          on_frames(SHORT_WAIT, listing, AGREES, [opened], [reply(4)], [struct.pack("<IiQ", 16, 5, own + 2)]),
+          ([*MOUNTED, "call 1", "read 4 READDIR 80", "no reply's head", "written 4 0", "no reply"], 4))
+    for count, last, status in [(9999, ["answer 1 0", "kernel"], 0), (10000, ["device failed: 10000 frames wait"], 4)]:
+        judge(f"{count} frames wait before RELEASEDIR's reply",
+              on_frames([], listing, AGREES, [opened], [reply(4)], [reply(6) * count + reply(own + 2)]), ([*listed, *last], status))
 
 
 def run_many():
@@ -313,7 +358,7 @@ def run_many():
     for count, last in [(9999, ["read 4 READDIR 80", "written 6 2", "reply to nothing", "kernel"]), (10000, ["device failed: 10000 frames wait"])]:
         judge(f"{count} frames wait", on_frames([], script, AGREES, [reply(6) * count + opened]), ([*begun, *last], 6 if count < 10000 else 4))
     last = ["read 4 READDIR 80", "written 4 0", "answer 1 0", "kernel"]
-    judge("20000 notifications", on_frames([], script, AGREES, [NOTICE * 20000 + opened], [reply(4)]), ([*begun, *[NOTIFIED] * 20000, *last], 0))
+    judge("20000 notifications", on_frames([], script, AGREES, [NOTICE * 20000 + opened], [reply(4)], [reply((1 << 62) + 2)]), ([*begun, *[NOTIFIED] * 20000, *last], 0))
 
 
 def run_talking():
@@ -322,7 +367,7 @@ def run_talking():
     listing = [*MOUNT, "call list / 0", "read p 0", "write"]
     listed = [*MOUNTED, "call 1", *[NOTIFIED] * 20, "read 4 READDIR 80", "written 4 0", "answer 1 0", "kernel"]
     for name, script, answers, lines in [("a reply", STAT, [ATTR], [*STATED, *[NOTIFIED] * 20, *ANSWERED]),
-                                         ("OPENDIR's reply", listing, [opened, reply(4)], listed)]:
+                                         ("OPENDIR's reply", listing, [opened, reply(4), reply((1 << 62) + 2)], listed)]:
         def talks(connection):
             """Says when it answers what was awaited."""
             frames = received(connection)
@@ -596,7 +641,7 @@ def run_random():
     judge("a seed: a bug is found", (status, any(FAULTS.search(line) for line in lines)), (6, True))
 
 
-for part in (run_bugs, run_otherwise, run_fields, run_frames, run_abort, run_closings, run_agreements, run_opendir, run_opendir_bugs, run_many, run_talking, run_refusals, run_waits, run_words, run_input, run_packets, run_trace, run_check, run_random):
+for part in (run_bugs, run_otherwise, run_fields, run_frames, run_abort, run_closings, run_agreements, run_opendir, run_opendir_bugs, run_releasedir, run_many, run_talking, run_refusals, run_waits, run_words, run_input, run_packets, run_trace, run_check, run_random):
     part()
 print(f"{judging.passed} passed, {judging.failed} failed")
 sys.exit(bool(judging.failed))

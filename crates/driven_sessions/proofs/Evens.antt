@@ -327,7 +327,7 @@ step_evens old log new (alone k acts) e = alone_evens old.kernel k acts e
 step_evens old log new (reads idle pick may request is) e = picked_evens old.kernel.queues pick e
 step_evens old log new (answers request error turn bytes written result k taken) e =
     taken_evens old.kernel bytes result k taken e
-step_evens old log new (writes frame rest there handed on result k taken went next_own left release) e =
+step_evens old log new (writes idles frame rest there handed on result k taken went next_own left turn release) e =
     taken_evens old.kernel handed result k taken e
 step_evens old log new step e = e
 

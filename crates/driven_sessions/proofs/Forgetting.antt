@@ -413,7 +413,7 @@ step_forgetting old log new (alone k acts) f = alone_forgetting old.kernel k act
 step_forgetting old log new (reads idle pick may request is) f = picked_forgetting old.kernel pick f
 step_forgetting old log new (answers request error turn bytes written result k taken) f =
     taken_forgetting old.kernel bytes result k taken f
-step_forgetting old log new (writes frame rest there handed on result k taken coming left release log') f =
+step_forgetting old log new (writes idles frame rest there handed on result k taken log' coming left turn release) f =
     taken_forgetting old.kernel handed result k taken f
 step_forgetting old log new step f = f
 

@@ -10,7 +10,7 @@ use Rattle.fuse_frames.specs.RequestTies.{SaysRequest}
 use Rattle.fk_kernel.specs.Picks.{IsPicked}
 use Rattle.fk_kernel.specs.declared.pick.Pick.{Pick}
 use Rattle.fk_kernel.specs.declared.pick.Pick.TheVariants.{Interrupt, Forgets, Pending}
-use Rattle.fk_drive.specs.Driving.{Driven, DriveStep, Drives, ReleasesBehind, SendsFrame, Turn, first_driven, alone, reads, sends, opens, is_given, is_not_known, is_refused, is_garbled, sends_opened, answers, waits, sets_aside, writes, ends, releases, releases_none, nothing, next as behind, with_result, at_end}
+use Rattle.fk_drive.specs.Driving.{Driven, DriveStep, Drives, ReleasesBehind, SendsFrame, Turn, first_driven, alone, reads, sends, opens, is_given, is_not_known, is_refused, is_garbled, sends_opened, answers, waits, sets_aside, writes, is_released, ends, releases, releases_none, nothing, next as behind, with_result, at_end}
 use Rattle.fuse_sessions.specs.UnreadRequests.{opcode_in, unique_in}
 use Rattle.driven_sessions.specs.Transfers.{AllSent}
 use Rattle.driven_sessions.proofs.Evens.{AreEven, Evens, run_evens}
@@ -30,13 +30,13 @@ all_append IsSuch (stopped end ∷ log) more first last = all_append IsSuch log 
 step_even : (old : Driven) (log : List Transfer) (new : Driven) → DriveStep old log new → old.next % 2 ≡ 0
     → new.next % 2 ≡ 0
 step_even old log new (opens request turn asks below node lists frame is log' went) even = omega (arith, even)
-step_even old log new (writes frame rest there handed on result k taken log' coming directories release) even =
-    by log' coming directories release
+step_even old log new (writes idles frame rest there handed on result k taken log' coming directories turn release) even =
+    by log' coming directories turn release
   where
-    by : (log : List Transfer) (coming : ℕ) (left : List (ℕ × Opened))
-        → ReleasesBehind frame old.next old.directories log coming left → coming % 2 ≡ 0
-    by log coming left (releases head below before after directory same apart bytes is over went) = omega (arith, even)
-    by log coming left (releases_none none) = even
+    by : (log : List Transfer) (coming : ℕ) (left : List (ℕ × Opened)) (turn : Turn)
+        → ReleasesBehind frame old.next old.directories log coming left turn → coming % 2 ≡ 0
+    by log coming left turn (releases head below before after directory same apart bytes is over went) = omega (arith, even)
+    by log coming left turn (releases_none none) = even
 step_even old log new step even = even
 
 pub run_even : (asks : Bool) (log : List Transfer) (new : Driven) → Drives (first_driven asks) log new
@@ -63,11 +63,12 @@ module _ (IsGood : Request → Type 0) (IsSuch : List ℕ → Type 0) (Fine : Ke
   own_sent frame unique even low own log (at_end end) = tt
 
   released_sent : (frame : List ℕ) (coming : ℕ) → coming % 2 ≡ 0 → (directories : List (ℕ × Opened)) (log : List Transfer) (later : ℕ)
-      (left : List (ℕ × Opened)) → ReleasesBehind frame coming directories log later left → AllSent IsSuch log
-  released_sent frame coming even directories log later left
+      (left : List (ℕ × Opened)) (turn : Turn) → ReleasesBehind frame coming directories log later left turn
+      → AllSent IsSuch log × (held turn ≡ None)
+  released_sent frame coming even directories log later left turn
       (releases head below before after directory there apart bytes is log' went) =
-      own_sent bytes coming even below (inr (directory, is)) log went
-  released_sent frame coming even directories log later left (releases_none none) = tt
+      (own_sent bytes coming even below (inr (directory, is)) log went, refl)
+  released_sent frame coming even directories log later left turn (releases_none none) = (tt, refl)
 
   abbrev Right : List Transfer → Driven → Type 0
   Right log new = AllSent IsSuch log × HeldGood new.turn
@@ -101,8 +102,11 @@ module _ (IsGood : Request → Type 0) (IsSuch : List ℕ → Type 0) (Fine : Ke
       (tt, none_right new.turn refl)
   step_right old log new (waits frame own_one) fine even right = (tt, right)
   step_right old log new (sets_aside frame other) fine even right = (tt, right)
-  step_right old log new (writes frame rest there handed on result k taken log' coming directories release) fine even right =
-      (released_sent frame old.next even old.directories log coming directories release, right)
+  step_right old log new (writes idles frame rest there handed on result k taken log' coming directories turn release) fine
+      even right =
+      let (sends, none) = released_sent frame old.next even old.directories log coming directories turn release in
+      (sends, none_right turn none)
+  step_right old log new (is_released unique turn frame head same) fine even right = (tt, none_right new.turn refl)
   step_right old log new (ends end) fine even right = (tt, right)
 
   module _ (asks : Bool)

@@ -7,7 +7,7 @@ use Rattle.fuse_frames.specs.RequestTies.{SaysRequest}
 use Rattle.fuse_sessions.specs.Numbers.{was_read}
 use Rattle.fuse_sessions.specs.Sessions.{Session}
 use Rattle.fuse_sessions.specs.UnreadRequests.{opcode_in, unique_in}
-use Rattle.fk_drive.specs.Driving.{Driven, SendsFrame, Turn, at_end, idle, opened, opening, picked, unopened, with_result}
+use Rattle.fk_drive.specs.Driving.{Driven, SendsFrame, Turn, at_end, idle, opened, opening, picked, releasing, unopened, with_result}
 use Rattle.driven_sessions.proofs.Frames.{HasOwnHead, frame_interrupt, frame_unique, is_interrupt}
 use Rattle.driven_sessions.proofs.Numbers.{Numbered, Passed}
 use Rattle.driven_sessions.proofs.Steps.{WhileLive}
@@ -19,6 +19,7 @@ held (picked request) = Some request
 held (opening request unique node) = Some request
 held (opened request fh) = Some request
 held (unopened request error) = Some request
+held (releasing unique) = None
 
 -- A number of the kernel, under which no request is read any more.
 pub record IsNumber (u : ℕ) (k : Kernel) : Type 0 where

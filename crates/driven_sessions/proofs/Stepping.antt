@@ -5,7 +5,7 @@ use Rattle.fuse_spec.specs.declared.Opened.{Opened}
 use Rattle.fuse_spec.specs.declared.WriteResult.{WriteResult}
 use Rattle.fuse_spec.specs.Kernel.Kernel.{Kernel, kernel_mounted}
 use Rattle.fuse_spec.specs.Kernel.Messages.{Request}
-use Rattle.fk_drive.specs.Driving.{Driven, DriveStep, ReleasesBehind, alone, reads, sends as sends_step, opens, is_given, is_not_known, is_refused, is_garbled, sends_opened, answers, waits, sets_aside, writes, ends as ends_step, releases, releases_none}
+use Rattle.fk_drive.specs.Driving.{Driven, DriveStep, ReleasesBehind, alone, reads, sends as sends_step, opens, is_given, is_not_known, is_refused, is_garbled, sends_opened, answers, waits, sets_aside, writes, is_released, ends as ends_step, releases, releases_none}
 use Rattle.fk_drive.specs.KernelSteps.{ActsAlone, IsReplyTaken, mounts}
 use Rattle.fk_drive_theorem.specs.TakenOnce.{mounts_alone, mounts_at}
 use Rattle.fk_drive_theorem.proofs.OneEach.{OneEach}
@@ -54,15 +54,15 @@ module _ (count : ℕ) (s : Session) where
       → new.next ≡ d.next → Keeps count new s
   still d new keeps kernel holds none next = keeps_still count d new s s keeps kernel holds none next (λ u is. is)
 
-  -- RELEASEDIR behind a frame
-  releasing : (d new : Driven) → Keeps count d s → KernelKeeps d.kernel new.kernel → held new.turn ≡ held d.turn
+  -- RELEASEDIR behind a frame, where nothing is held
+  releasing : (d new : Driven) → Keeps count d s → KernelKeeps d.kernel new.kernel → held d.turn ≡ None
       → (frame : List ℕ) (log : List Transfer) (directories : List (ℕ × Opened))
-      → ReleasesBehind frame d.next d.directories log new.next directories → Goes count s new log
-  releasing d new keeps kernel same frame log directories
+      → ReleasesBehind frame d.next d.directories log new.next directories new.turn → Goes count s new log
+  releasing d new keeps kernel none frame log directories
       (releases head below before after directory there apart bytes is log' went) =
-      own_goes count d new s keeps kernel same refl below bytes (releasedir_head bytes d.next directory is below) log went
-  releasing d new keeps kernel same frame log directories (releases_none none) =
-      quiet [] nothing (still d new keeps kernel (λ r is. sym same ∙ is) (λ is. same ∙ is) refl)
+      own_goes count d new s keeps kernel (sym none) refl below bytes (releasedir_head bytes d.next directory is below) log went
+  releasing d new keeps kernel none frame log directories (releases_none unlisted) =
+      quiet [] nothing (still d new keeps kernel (λ r is. none ∙ is) (λ is. refl) refl)
 
   -- a step without a mount
   pub step_goes : (old : Driven) (log : List Transfer) (new : Driven) (step : DriveStep old log new) → mounts_at step ≡ 0
@@ -100,9 +100,12 @@ module _ (count : ℕ) (s : Session) where
       quiet log (receives frame) (still old new keeps (same_keeps old.kernel) (λ r is. is) (λ is. is) refl)
   step_goes old log new (sets_aside frame other) none empty one within few keeps =
       quiet log (receives frame) (still old new keeps (same_keeps old.kernel) (λ r is. is) (λ is. is) refl)
-  step_goes old log new (writes frame rest there handed on result k taken log' next directories behind) none empty one
-      within few keeps = releasing old new keeps (taken_kernel old.kernel handed result k taken empty) refl frame log
-      directories behind
+  step_goes old log new (writes idles frame rest there handed on result k taken log' next directories turn behind) none empty
+      one within few keeps = releasing old new keeps (taken_kernel old.kernel handed result k taken empty) (ap held idles)
+      frame log directories behind
+  step_goes old log new (is_released unique turn frame head same) none empty one within few keeps =
+      quiet log (receives frame) (still old new keeps (same_keeps old.kernel) (λ r is. ap held turn ∙ is)
+      (λ is. sym (ap held turn) ∙ is) refl)
   step_goes old log new (ends_step end) none empty one within few keeps =
       quiet log (ends end) (still old new keeps (same_keeps old.kernel) (λ r is. is) (λ is. is) refl)
 

@@ -17,7 +17,7 @@ use Rattle.fk_drive_frames.specs.Asides.{IsOtherFrame}
 use Rattle.fk_drive_frames.specs.OwnRequests.{GivesHandle, IsReleasedir}
 use Rattle.fk_drive.specs.Driven.{KeepsWaiting, directories_in, driven}
 use Rattle.fk_drive_frames.specs.declared.filling.FreeFields.{FreeFields}
-use Rattle.fk_drive.specs.Driving.{Driven, SendsFrame, DriveStep, ReleasesBehind, Turn, is_given, opened, opening, releases, waits}
+use Rattle.fk_drive.specs.Driving.{Driven, SendsFrame, DriveStep, ReleasesBehind, Turn, is_given, opened, opening, releases, releasing, waits}
 use Rattle.fk_drive.specs.Steps.{IsKept, SendStep}
 use Rattle.fk_drive.specs.declared.connection.Connection.{Connection}
 use Rattle.fk_drive.specs.declared.connection.Directory.{Directory}
@@ -129,7 +129,7 @@ none_passes {X} p xs none k d low = by (nat_lt (position_or_len p xs) (length xs
 pub releases_at : (frame : List ℕ) → HasReplyHead frame → (next : ℕ) → next < 2 ^ 63 → (directories : List Directory) (i : ℕ)
     (d : Directory) → position (λ x. x.unique == head_unique frame) directories ≡ Some i → slice_get directories i ≡ Some d
     → (bytes : List ℕ) → IsReleasedir bytes next d.opened → (log : List Transfer) → SendsFrame bytes log
-    → ReleasesBehind frame next (map pair directories) log (next + 2) (map pair (remove directories i))
+    → ReleasesBehind frame next (map pair directories) log (next + 2) (map pair (remove directories i)) (releasing next)
 releases_at frame head next low directories i d first there spelled about log sends =
     let u : ℕ = head_unique frame in
     let test : Directory → Bool = λ x. x.unique == u in
@@ -147,7 +147,7 @@ releases_at frame head next low directories i d first there spelled about log se
     let same : suc i ≡ i + 1 = omega arith in
     let left : map pair (remove directories i) ≡ map pair before ++ map pair after =
     ap (λ (n : ℕ). map pair (before ++ drop n directories)) same ∙ map-append pair before after in
-    subst (λ (ds : List (ℕ × Opened)). ReleasesBehind frame next (map pair directories) log (next + 2) ds) (sym left)
+    subst (λ (ds : List (ℕ × Opened)). ReleasesBehind frame next (map pair directories) log (next + 2) ds (releasing next)) (sym left)
     (releases head low (map pair before) (map pair after) d.opened split (All-map (λ x. x.0 ≢ u) pair before unlike) spelled about log
     sends)
 
@@ -161,13 +161,13 @@ releases_nothing frame directories none =
 -- what a connection is once it was released
 pub released : {A : Type 0} (old new : Connection A) (frame : List ℕ) (i : ℕ)
     → new.directories.items ≡ remove old.directories.items i
-    → new ≡ record old { next = old.next + 2; directories = new.directories } → (log : List Transfer)
-    → ReleasesBehind frame old.next (directories_in old) log (old.next + 2) (map pair (remove old.directories.items i))
-    → ReleasesBehind frame old.next (directories_in old) log new.next (directories_in new)
-released {A} old new frame i left same log behind =
+    → new ≡ record old { next = old.next + 2; directories = new.directories } → (log : List Transfer) → (turn : Turn)
+    → ReleasesBehind frame old.next (directories_in old) log (old.next + 2) (map pair (remove old.directories.items i)) turn
+    → ReleasesBehind frame old.next (directories_in old) log new.next (directories_in new) turn
+released {A} old new frame i left same log turn behind =
     let next : new.next ≡ old.next + 2 = ap (λ (c : Connection A). c.next) same in
-    subst (λ (n : ℕ). ReleasesBehind frame old.next (directories_in old) log n (directories_in new)) (sym next)
-    (subst (λ (ds : List Directory). ReleasesBehind frame old.next (directories_in old) log (old.next + 2) (map pair ds))
+    subst (λ (n : ℕ). ReleasesBehind frame old.next (directories_in old) log n (directories_in new) turn) (sym next)
+    (subst (λ (ds : List Directory). ReleasesBehind frame old.next (directories_in old) log (old.next + 2) (map pair ds) turn)
     (sym left) behind)
 
 pub keeps_waiting : {A : Type 0} (old new : Connection A)

@@ -3,6 +3,7 @@ pub mod Ending
 pub mod Keeping
 pub mod Changes
 pub mod Noting
+pub mod Released
 pub mod Requests
 pub mod Sent
 pub mod WrittenNext

@@ -18,9 +18,9 @@ use Rattle.fk_drive_frames.specs.Asides.{IsOtherFrame}
 use Rattle.fk_drive.specs.KernelSteps.{ActsAlone, IsReplyTaken}
 use Rattle.fk_drive_frames.specs.OwnRequests.{GivesError, GivesHandle, GivesNothing, IsOpendir, IsReleasedir, ListsNode, first_opendir_unique, eio_error, not_known}
 
--- What becomes of a request that the kernel's read gave, until it is sent.
+-- What becomes of a request that the kernel's read gave, until it is sent, and which reply is awaited before the next.
 pub data Turn : Type 0 where
-  -- There is none.
+  -- There is none, and no reply is awaited.
   idle : Turn
   -- It was read.
   picked : Request → Turn
@@ -30,6 +30,8 @@ pub data Turn : Type 0 where
   opened : Request → (fh : ℕ) → Turn
   -- OPENDIR was answered this error.
   unopened : Request → ℤ → Turn
+  -- RELEASEDIR was sent under this number, and its reply is awaited.
+  releasing : (unique : ℕ) → Turn
 
 -- The kernel, and what is kept of its connection to the server.
 pub record Driven : Type 0 where
@@ -61,21 +63,21 @@ pub data SendsFrame (bytes : List ℕ) : List Transfer → Type 0 where
   at_end : (end : DeviceEnd) → SendsFrame bytes (unsent bytes end ∷ [])
 
 -- RELEASEDIR goes behind a frame that is the reply to what listed an open directory, under the number that comes next,
--- while there is one. Of two directories under one number it is the first.
+-- while there is one, and its reply is awaited then. Of two directories under one number it is the first.
 pub data ReleasesBehind (frame : List ℕ) (next : ℕ) (directories : List (ℕ × Opened))
-    : List Transfer → ℕ → List (ℕ × Opened) → Type 0 where
+    : List Transfer → ℕ → List (ℕ × Opened) → Turn → Type 0 where
   releases : HasReplyHead frame → next < 2 ^ 63 → (before after : List (ℕ × Opened)) (directory : Opened)
       → directories ≡ before ++ (head_unique frame, directory) ∷ after → All (λ d. d.0 ≢ head_unique frame) before
       → (bytes : List ℕ) → IsReleasedir bytes next directory → (log : List Transfer) → SendsFrame bytes log
-      → ReleasesBehind frame next directories log (next + 2) (before ++ after)
+      → ReleasesBehind frame next directories log (next + 2) (before ++ after) (releasing next)
   releases_none : (HasReplyHead frame → next < 2 ^ 63 → All (λ d. d.0 ≢ head_unique frame) directories)
-      → ReleasesBehind frame next directories [] next directories
+      → ReleasesBehind frame next directories [] next directories idle
 
 -- One step, and what goes over the device at it.
 pub data DriveStep (old : Driven) : List Transfer → Driven → Type 0 where
   -- The kernel does something without its server.
   alone : (new : Kernel) → ActsAlone old.kernel new → DriveStep old [] (record old { kernel = new })
-  -- A request is read from the kernel.
+  -- A request is read from the kernel, once each reply that was awaited came.
   reads : old.turn ≡ idle → (pick : Pick) → pick_refusal old.kernel pick ≡ None → (request : Request)
       → IsPicked old.kernel pick request → DriveStep old [] (record old {
         kernel = record old.kernel { queues = after_pick old.kernel.queues pick };
@@ -124,15 +126,19 @@ pub data DriveStep (old : Driven) : List Transfer → Driven → Type 0 where
   sets_aside : (frame : List ℕ) → IsOtherFrame old.next frame → DriveStep old (received frame ∷ []) old
   -- The first frame that waits is written to the kernel, and RELEASEDIR goes behind it where it is the reply to what
   -- listed an open directory.
-  writes : (frame : List ℕ) (rest : List (List ℕ)) → old.waiting ≡ frame ∷ rest → (handed : List ℕ)
+  writes : old.turn ≡ idle → (frame : List ℕ) (rest : List (List ℕ)) → old.waiting ≡ frame ∷ rest → (handed : List ℕ)
       → IsHandedOn frame handed → (result : WriteResult) (new : Kernel) → IsReplyTaken old.kernel handed result new
-      → (log : List Transfer) (next : ℕ) (directories : List (ℕ × Opened))
-      → ReleasesBehind frame old.next old.directories log next directories → DriveStep old log (record old {
+      → (log : List Transfer) (next : ℕ) (directories : List (ℕ × Opened)) (turn : Turn)
+      → ReleasesBehind frame old.next old.directories log next directories turn → DriveStep old log (record old {
         kernel = new;
         waiting = rest;
         next = next;
         directories = directories;
+        turn = turn;
       })
+  -- RELEASEDIR is answered, whatever the reply says.
+  is_released : (unique : ℕ) → old.turn ≡ releasing unique → (frame : List ℕ) → HasReplyHead frame
+      → head_unique frame ≡ unique → DriveStep old (received frame ∷ []) (record old { turn = idle })
   -- The device ends as a frame is to be received.
   ends : (end : DeviceEnd) → DriveStep old (stopped end ∷ []) old
 

@@ -8,5 +8,6 @@ pub mod Steps
 pub mod Openings
 pub mod Sending
 pub mod Receiving
+pub mod Releasing
 pub mod Writing
 pub mod WriteRefusals

@@ -8,7 +8,7 @@ pub record HasRoomForFrame {A : Type 0} (connection : Connection A) : Type 0 whe
   pub waiting : vec_len connection.waiting < vec_capacity connection.waiting
   pub directories : vec_len connection.directories < vec_capacity connection.directories
 
--- How many frames wait for the kernel at most, while the reply to OPENDIR is awaited. (this project's rule)
+-- How many frames wait for the kernel at most, while the reply to OPENDIR or RELEASEDIR is awaited. (this project's rule)
 abbrev pub most_waiting : ℕ
 most_waiting = 10000
 

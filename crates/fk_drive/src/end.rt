@@ -13,7 +13,8 @@ pub enum DriveEnd {
     /// Out of memory for a frame that is to come.
     #[error("out of memory")]
     Memory,
-    /// As many frames wait for the kernel as are kept (`MOST_WAITING`), while the reply to OPENDIR is awaited.
+    /// As many frames wait for the kernel as are kept (`MOST_WAITING`), while the reply to OPENDIR or RELEASEDIR is
+    /// awaited.
     #[error("too many frames wait")]
     TooMany,
     /// The kernel refused the error reply for a directory that could not be opened.

@@ -7,6 +7,7 @@ mod exchange;
 mod noted;
 mod opening;
 mod receiving;
+mod releasing;
 mod sending;
 mod writing;
 

@@ -11,7 +11,10 @@ pub enum Noted {
     SetAside(OtherFrame),
     /// It is the reply to the OPENDIR under this number, which was awaited, and has the body of one or not.
     OpendirReply { unique: u64, is_whole: bool },
-    /// It has the number of the OPENDIR whose reply is awaited, and is no reply by its head. It waits for the kernel.
+    /// It is the reply to the RELEASEDIR under this number, which was awaited, and has no body, as that wants, or has one.
+    ReleasedirReply { unique: u64, is_whole: bool },
+    /// It has the number of the OPENDIR or RELEASEDIR whose reply is awaited, and is no reply by its head. It waits for the
+    /// kernel.
     NoOpendirReply { unique: u64 },
 }
 

@@ -120,8 +120,8 @@ fn note_reply<N: Notes<O>, O>(notes: &mut N, out: &mut O, own: u64, frame: &[u8]
     notes.note(noted, out);
 }
 
-/// Notes what is no reply, and has the number of the OPENDIR whose reply is awaited.
-fn note_no_reply<N: Notes<O>, O>(notes: &mut N, out: &mut O, own: u64, frame: &[u8])
+/// Notes what is no reply, and has the number of the OPENDIR or RELEASEDIR whose reply is awaited.
+pub(crate) fn note_no_reply<N: Notes<O>, O>(notes: &mut N, out: &mut O, own: u64, frame: &[u8])
     ensures under { 16 ≤ length frame.now → head_unique frame.now ≡ own
         → N.notes notes.old notes.new out.old out.new (Noted.NoOpendirReply own ∷ []) }
     ensures none { (16 ≤ length frame.now → head_unique frame.now ≡ own → ⊥)

@@ -21,7 +21,7 @@ use fk_drive_frames::other_frame_in;
 use fuse_device::Device;
 use std::alloc::Allocator;
 
-/// How many frames wait for the kernel at most, while the reply to OPENDIR is awaited.
+/// How many frames wait for the kernel at most, while the reply to OPENDIR or RELEASEDIR is awaited.
 const MOST_WAITING: usize = 10_000;
 
 impl<A: Allocator + Copy> Connection<A> {
@@ -40,7 +40,7 @@ impl<A: Allocator + Copy> Connection<A> {
         }
     }
 
-    /// Makes room for one frame while the reply to OPENDIR is awaited, if not as many wait as are kept.
+    /// Makes room for one frame while the reply to OPENDIR or RELEASEDIR is awaited, if not as many wait as are kept.
     pub(crate) fn make_room_awaiting(&mut self) -> Result<(), DriveEnd>
         ensures same { Keeps self.old self.new }
         ensures long { vec_len self.new.waiting ≡ vec_len self.old.waiting }

@@ -1,32 +1,28 @@
 //! What was received is written to the kernel.
 
-ghost use Rattle.std.specs.Prelude.{◌≡◌, ◌==◌, ◌+◌, ◌<◌, ◌^◌, [], ℕ, List, Some, IfErr, IfOk, OnErr, OnOk, position, remove, slice_get, vec_len};
+ghost use Rattle.std.specs.Prelude.{◌≡◌, ◌<◌, ℕ, List, IfErr, IfOk, OnErr, OnOk, vec_len};
 ghost use Rattle.fuse_spec.specs.Kernel.Kernel.{Kernel as KernelState};
 ghost use Rattle.fk_drive_frames.specs.Agreements.{IsHandedOn};
 ghost use Rattle.fuse_device.specs.Transfers.{Transfer};
-ghost use Rattle.fuse_frames.specs.DecodedReplies.{HasReplyHead, head_unique};
-ghost use Rattle.fk_drive_frames.specs.OwnRequests.{IsReleasedir};
-ghost use Rattle.fk_drive.specs.Driven.{KeepsWaiting, directories_in, driven};
-ghost use Rattle.fk_drive.specs.Driving.{DrivesOver, ReleasesBehind, Runs, SendsFrame, Turn};
-ghost use Rattle.fk_drive.specs.Exchanges.{EndsAs, WentOver};
+ghost use Rattle.fk_drive.specs.Driven.{driven};
+ghost use Rattle.fk_drive.specs.Driving.{DrivesOver, Runs, Turn, idle};
+ghost use Rattle.fk_drive.specs.Exchanges.{WentOver};
 ghost use Rattle.fk_drive.specs.KernelSteps.{IsReplyTaken};
 ghost use Rattle.fk_drive.specs.Notings.{HasNoted};
 ghost use Rattle.fk_drive.specs.Receiving.{ReceivesUntil};
 ghost use Rattle.fk_drive.specs.Steps.{ReceiveStep};
 ghost use Rattle.fk_drive.specs.WriteRefusals.{IsFirstRefused, IsWriteRefused};
 ghost use Rattle.fk_drive.specs.Writing.{WritesFirst, WritesNext};
-ghost use Rattle.fk_drive.specs.declared.connection.Directory.{Directory};
 
-use crate::connection::{Connection, Directory};
+use crate::connection::Connection;
 use crate::end::DriveEnd;
-use crate::exchange::send_bytes;
 use crate::noted::Notes;
 use crate::receiving::receive_next;
-use fk_drive_frames::{OPENDIR_UNIQUES_END, is_older_agreement, raised_of, releasedir};
+use crate::releasing::release;
+use fk_drive_frames::{is_older_agreement, raised_of};
 use fk_kernel::KernelOf;
 use fk_lookup_count::CountTable;
 use fk_queues::QueueTable;
-use fk_wire::ReplyHead;
 use fuse_device::Device;
 use fuse_spec::{Purpose, Refusal, WriteResult};
 use std::alloc::Allocator;
@@ -40,7 +36,7 @@ pub struct Written<A: Allocator> {
     pub is_raised: bool,
     /// What the kernel said.
     pub result: WriteResult,
-    /// Whether the run came to its end behind it, as RELEASEDIR was to be sent.
+    /// Whether the run came to its end behind it, as RELEASEDIR was to be sent or its reply to come.
     pub end: Option<DriveEnd>,
 }
 
@@ -86,59 +82,6 @@ fn receive_one<A: Allocator + Copy, D: Device, N: Notes<O>, O>(
     }
 }
 
-/// Sends RELEASEDIR of the open directory at a place.
-fn release_at<A: Allocator + Copy, D: Device>(
-    connection: &mut Connection<A>,
-    device: &mut D,
-    place: usize,
-) -> Result<(), DriveEnd>
-    requires place { place < vec_len connection.old.directories }
-    requires numbers { connection.old.next < 2 ^ 63 }
-    ensures sends { WentOver D.logs device.old device.new (EndsAs result) (λ log. (bytes : List ℕ) × (directory : Directory)
-        × (slice_get connection.old.directories.items place ≡ Some directory)
-        × IsReleasedir bytes connection.old.next directory.opened × SendsFrame bytes log) }
-    ensures left { connection.new.directories.items ≡ remove connection.old.directories.items place }
-    ensures same { connection.new ≡ record connection.old {
-      next = connection.old.next + 2;
-      directories = connection.new.directories;
-    } }
-{
-    let directory = connection.directories.remove(place);
-    let own = connection.next;
-    connection.next += 2;
-    send_bytes(device, &releasedir(own, directory.opened))
-}
-
-/// Where the directory stands that was opened for the request under a number.
-fn place_of(directories: &[Directory], unique: u64) -> Option<usize>
-    ensures { result ≡ position (λ directory. directory.unique == unique) directories.now }
-{
-    directories
-        .iter()
-        .position(|directory| directory.unique == unique)
-}
-
-/// Sends RELEASEDIR of the directory that was opened for the request under a number, if one was.
-fn release_directory<A: Allocator + Copy, D: Device>(
-    connection: &mut Connection<A>,
-    device: &mut D,
-    unique: u64,
-) -> Result<(), DriveEnd>
-    ensures releases { (frame : List ℕ) → HasReplyHead frame → head_unique frame ≡ unique
-        → WentOver D.logs device.old device.new (EndsAs result)
-        (λ log. ReleasesBehind frame connection.old.next (directories_in connection.old) log connection.new.next
-        (directories_in connection.new)) }
-    ensures same { KeepsWaiting connection.old connection.new }
-{
-    if connection.next >= OPENDIR_UNIQUES_END {
-        return Ok(());
-    }
-    match place_of(&connection.directories, unique) {
-        Some(place) => release_at(connection, device, place),
-        None => Ok(()),
-    }
-}
-
 /// Writes the first frame that waits to the kernel.
 fn write_first<Q: QueueTable<Purpose> + Drop, C: CountTable<Heap = Q::Heap> + Drop>(
     kernel: &mut KernelOf<Q, C>,
@@ -163,30 +106,14 @@ fn write_first<Q: QueueTable<Purpose> + Drop, C: CountTable<Heap = Q::Heap> + Dr
     })
 }
 
-/// Sends RELEASEDIR behind a frame that was written, where that is the reply to what listed an open directory.
-fn release_behind<A: Allocator + Copy, D: Device>(
-    connection: &mut Connection<A>,
-    device: &mut D,
-    frame: &[u8],
-) -> Result<(), DriveEnd>
-    ensures releases { WentOver D.logs device.old device.new (EndsAs result)
-        (λ log. ReleasesBehind frame.now connection.old.next (directories_in connection.old) log connection.new.next
-        (directories_in connection.new)) }
-    ensures same { KeepsWaiting connection.old connection.new }
-{
-    match ReplyHead::read(frame) {
-        Ok(head) => release_directory(connection, device, head.unique),
-        Err(_) => Ok(()),
-    }
-}
-
-/// Writes the next frame to the kernel, which waits already or is received now, and sends RELEASEDIR where it is the
-/// reply to what listed an open directory. `Err` of the inner result is the kernel's refusal: the frame still waits. What
-/// is not for the kernel is noted as it comes.
+/// Writes the next frame to the kernel, which waits already or is received now. Where it is the reply to what listed an
+/// open directory, RELEASEDIR is sent, and frames are received until its reply: so the next request is read only then, and
+/// no FORGET of the directory goes before that. `Err` of the inner result is the kernel's refusal: the frame still waits.
+/// What is not for the kernel is noted as it comes.
 ///
 /// # Errors
 ///
-/// The run came to its end before there was one.
+/// The run came to its end before there was one. `Written::end` says where it did behind one.
 pub fn write_next<
     Q: QueueTable<Purpose> + Drop,
     C: CountTable<Heap = Q::Heap> + Drop,
@@ -200,9 +127,9 @@ pub fn write_next<
     notes: &mut N,
     out: &mut O,
 ) -> Result<Result<Written<Q::Heap>, Refusal>, DriveEnd>
-    ensures writes { (turn : Turn) → (log : List Transfer) × D.logs device.old device.new log
-        × WritesNext result (driven kernel.old connection.old turn) log (driven kernel.new connection.new turn) }
-    ensures drives { (turn : Turn) → DrivesOver D.logs device.old device.new (driven kernel.old connection.old turn)
+    ensures writes { (turn : Turn) × (log : List Transfer) × D.logs device.old device.new log
+        × WritesNext result (driven kernel.old connection.old idle) log (driven kernel.new connection.new turn) }
+    ensures drives { (turn : Turn) × DrivesOver D.logs device.old device.new (driven kernel.old connection.old idle)
         (driven kernel.new connection.new turn) }
     ensures refused { IfOk result (λ written. IfErr written (IsFirstRefused kernel.new connection.new)) }
     ensures noted { HasNoted N.notes notes.old notes.new out.old out.new }
@@ -210,7 +137,7 @@ pub fn write_next<
     receive_one(connection, device, notes, out)?;
     match write_first(kernel, connection) {
         Ok(mut written) => {
-            written.end = release_behind(connection, device, &written.frame).err();
+            written.end = release(connection, device, notes, out, &written.frame).err();
             Ok(Ok(written))
         }
         Err(refusal) => Ok(Err(refusal)),

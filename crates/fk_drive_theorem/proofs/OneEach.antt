@@ -163,7 +163,7 @@ step_one old log new (alone k acts) empty one = alone_one old.kernel k acts one
 step_one old log new (reads idle pick may request is) empty one = picked_one old.kernel.queues pick one
 step_one old log new (answers request error turn bytes written result k taken) empty one =
     taken_one old.kernel bytes result k taken empty one
-step_one old log new (writes frame rest there handed on result k taken went next_own left behind) empty one =
+step_one old log new (writes idles frame rest there handed on result k taken went next_own left turn behind) empty one =
     taken_one old.kernel handed result k taken empty one
 step_one old log new step empty one = one
 

@@ -59,7 +59,7 @@ step_once : (old : Driven) (log : List Transfer) (new : Driven) → DriveStep ol
 step_once old log new (alone k acts) = alone_once old.kernel k acts
 step_once old log new (answers request error turn bytes written result k taken) =
     taken_once old.kernel bytes result k taken
-step_once old log new (writes frame rest there handed on result k taken went next_own left behind) = taken_once old.kernel handed result k taken
+step_once old log new (writes idles frame rest there handed on result k taken went next_own left turn behind) = taken_once old.kernel handed result k taken
 step_once old log new step = as_they_were old.kernel.vfs
 
 -- Each call is answered at most once.

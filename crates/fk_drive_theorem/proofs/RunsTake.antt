@@ -81,7 +81,7 @@ module _ (u : ℕ) where
   step_gone old log new (reads idle pick may request is) none gone = picked_gone old.kernel pick gone
   step_gone old log new (answers request error turn bytes written result k taken) none gone =
       taken_gone old.kernel bytes result k taken gone
-  step_gone old log new (writes frame rest there handed on result k taken went next_own left behind) none gone =
+  step_gone old log new (writes idles frame rest there handed on result k taken went next_own left turn behind) none gone =
       taken_gone old.kernel handed result k taken gone
   step_gone old log new step none gone = gone
 

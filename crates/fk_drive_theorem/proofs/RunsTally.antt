@@ -302,7 +302,7 @@ module _ (id : ℕ) (low : 2 ≤ id) where
       picked_tallied old.kernel pick request tally may is was
   step_tallied old log new (answers request error turn bytes written result k taken) tally was =
       taken_tallied old.kernel bytes result tally was k taken
-  step_tallied old log new (writes frame rest there handed on result k taken went next_own left behind) tally was =
+  step_tallied old log new (writes idles frame rest there handed on result k taken went next_own left turn behind) tally was =
       taken_tallied old.kernel handed result tally was k taken
   step_tallied old log new step tally was = was
 

@@ -53,7 +53,7 @@ tally_at id (reads idle pick may request is) tally = record tally {
 }
 tally_at id {old = old} (answers request error turn bytes written result new taken) tally =
     tally_written id old.kernel bytes result new tally
-tally_at id {old = old} (writes frame rest there handed on result new taken went next_own left behind) tally =
+tally_at id {old = old} (writes idles frame rest there handed on result new taken went next_own left turn behind) tally =
     tally_written id old.kernel handed result new tally
 tally_at id step tally = tally
 

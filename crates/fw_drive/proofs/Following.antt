@@ -15,7 +15,7 @@ use Rattle.fk_drive.specs.declared.end.DriveEnd.{DriveEnd}
 use Rattle.fk_drive.specs.declared.end.NotSent.TheVariants.{Refused, Ended}
 use Rattle.fk_drive.proofs.Drivings.{drives_on, one_step}
 use Rattle.fk_drive.proofs.Sent.{picked_drives}
-use Rattle.fk_drive.proofs.WrittenNext.{over_next}
+use Rattle.fk_drive.proofs.WrittenNext.{next_drives}
 use Rattle.fw_script.specs.Records.{answer_text, nodes_text}
 use Rattle.fw_world.specs.Values.{counted_nodes}
 use Rattle.fw_world.specs.declared.event.Event.{Event}
@@ -23,7 +23,7 @@ use Rattle.fw_world.specs.declared.event.Outcome.{Outcome}
 use Rattle.fw_drive.specs.Acts.{Acts}
 use Rattle.fw_drive.specs.Findings.{Tells, Told, end_status, is_any_move_wrong, is_any_wrong, is_wrong_move}
 use Rattle.fw_drive.specs.LineMoves.{FirstThen, IsCollected, IsMoveOf, LinesMoveAs, all_lines, first_move}
-use Rattle.fw_drive.specs.Moves.{GoOn, IsDue, IsNote, IsSettled, Move, Moves, MovesOn, acts, sends, writes, collects, shows, notes, end_of, no_move, next_move}
+use Rattle.fw_drive.specs.Moves.{GoOn, IsBetween, IsDue, IsNote, IsSettled, Move, Moves, MovesOn, acts, sends, writes, collects, shows, notes, end_of, no_move, next_move}
 use Rattle.fw_drive.specs.Notes.{Note, notes_text}
 use Rattle.fw_drive.specs.Printed.{Gets, GetsAt, IsLineOf, IsTextOf, next_text, no_text}
 use Rattle.fw_drive.specs.Runs.{Collects, EndsAs, Goes, GoesAlone, IsOwnStop, IsUnprinted, Keeps, IsStatusOf, IsStopStatus, NothingOver, RunsScript, SaysStop, StopsAt, at, by_itself, at_end, stop_of}
@@ -50,8 +50,8 @@ still_drives : (old new : Driven) (log : List Transfer) → log ≡ [] → new �
 still_drives old new log none same =
     subst (λ (l : List Transfer). Drives old l new) (sym none) (subst (λ (n : Driven). Drives old [] n) (sym same) nothing)
 
--- a move between requests is driven
-move_drives : {A : Type 0} (old : Driven) (move : Move A) (log : List Transfer) (new : Driven) → old.turn ≡ idle
+-- a move is driven
+move_drives : {A : Type 0} (old : Driven) (move : Move A) (log : List Transfer) (new : Driven) → IsBetween old move
     → Moves old move log new → Drives old log new
 move_drives old (acts e (Ok o)) log new is (none, does, same) =
     alone_drives old new new.kernel log none (acts_alone old.kernel e o new.kernel does) same
@@ -61,9 +61,7 @@ move_drives old (sends pick fields (Ok request)) log new is (picks, until) =
 move_drives old (sends pick fields (Err (Refused refusal))) log new is (none, same) = still_drives old new log none same
 move_drives old (sends pick fields (Err (Ended end))) log new is (request, picks, until) =
     picked_drives pick fields request old log new is picks
-move_drives old (writes r) log new is goes =
-    let (l, same, drives) = over_next (λ (a b : Unit {0}) (k : List Transfer). k ≡ log) tt tt r old new (log, refl, goes) in
-    subst (λ (k : List Transfer). Drives old k new) same drives
+move_drives old (writes r) log new is goes = next_drives r old log new goes
 move_drives old (collects call answer) log new is (none, first, same) =
     alone_drives old new _ log none (gives_answer call) same
 move_drives old (shows nodes) log new is (none, counted, same) = still_drives old new log none same
@@ -72,7 +70,7 @@ move_drives old (notes note) log new is (none, same) = still_drives old new log 
 pub moves_drive : {A : Type 0} (old : Driven) (moves : List (Move A)) (log : List Transfer) (new : Driven)
     → MovesOn old moves log new → Drives old log new
 moves_drive old _ _ _ no_move = nothing
-moves_drive old _ _ _ (next_move moves before mid run is move due log new step) =
+moves_drive old _ _ _ (next_move moves before mid run move is due log new step) =
     drives_on old mid new before log (moves_drive old moves before mid run) (move_drives mid move log new is step)
 
 -- one run of moves after another
@@ -81,14 +79,18 @@ pub moves_on : {A : Type 0} (a b c : Driven) (m n : List (Move A)) (h k : List T
 moves_on {A} a b c m _ h _ one no_move =
     subst (λ (l : List Transfer). MovesOn a (m ++ []) l b) (sym (append-nil h))
     (subst (λ (n : List (Move A)). MovesOn a n h b) (sym (append-nil m)) one)
-moves_on {A} a b c m _ h _ one (next_move moves before mid two is move due log new step) =
+moves_on {A} a b c m _ h _ one (next_move moves before mid two move is due log new step) =
     subst (λ (n : List (Move A)). MovesOn a n (h ++ (before ++ log)) new) (append_assoc m moves (move ∷ []))
     (subst (λ (l : List Transfer). MovesOn a ((m ++ moves) ++ move ∷ []) l new) (append_assoc h before log)
-    (next_move (m ++ moves) (h ++ before) mid (moves_on a b mid m moves h before one two) is move due log new step))
+    (next_move (m ++ moves) (h ++ before) mid (moves_on a b mid m moves h before one two) move is due log new step))
 
-pub one_move : {A : Type 0} (a b : Driven) (move : Move A) (log : List Transfer) → a.turn ≡ idle → IsDue a move
+pub one_move : {A : Type 0} (a b : Driven) (move : Move A) (log : List Transfer) → IsBetween a move → IsDue a move
     → Moves a move log b → MovesOn a (move ∷ []) log b
-one_move a b move log is due step = next_move [] [] a no_move is move due log b step
+one_move a b move log is due step = next_move [] [] a no_move move is due log b step
+
+between_idle : {A : Type 0} (a : Driven) (move : Move A) → a.turn ≡ idle → IsBetween a move
+between_idle a (notes note) is = tt
+between_idle a move is = is
 
 pub due_settled : {A : Type 0} (a : Driven) (move : Move A) → IsSettled a → IsDue a move
 due_settled a (collects call answer) settled = tt
@@ -142,12 +144,12 @@ on_any (Ok x) P holds = holds
 on_any (Err stop) P holds = tt
 
 -- something was said
-pub said_on : {A : Type 0} (driver : Driven) (said : List (Note A))
-    → MovesOn (at driver idle) (said_moves said) [] (at driver idle)
-said_on driver [] = no_move
-said_on driver (note ∷ said) =
-    moves_on (at driver idle) (at driver idle) (at driver idle) (notes note ∷ []) (said_moves said) [] []
-    (one_move (at driver idle) (at driver idle) (notes note) [] refl tt (refl, refl)) (said_on driver said)
+pub said_on : {A : Type 0} (driver : Driven) (turn : Turn) (said : List (Note A))
+    → MovesOn (at driver turn) (said_moves said) [] (at driver turn)
+said_on driver turn [] = no_move
+said_on driver turn (note ∷ said) =
+    moves_on (at driver turn) (at driver turn) (at driver turn) (notes note ∷ []) (said_moves said) [] []
+    (one_move (at driver turn) (at driver turn) (notes note) [] tt tt (refl, refl)) (said_on driver turn said)
 
 -- a part of a call, which did not fail
 abbrev pub Went : (A : Type 0) {D : Type 0} → (D → D → List Transfer → Type 0) → Form → D → D
@@ -273,8 +275,8 @@ module _ (A : Type 0) {D : Type 0} (logs : D → D → List Transfer → Type 0)
     log = log;
     over = over;
     on =
-        λ waits. moves_on (at old idle) (at old idle) (at new turn) (said_moves said) (move ∷ []) [] log (said_on old said)
-        (one_move (at old idle) (at new turn) move log refl (due_settled (at old idle) move waits) moves);
+        λ waits. moves_on (at old idle) (at old idle) (at new turn) (said_moves said) (move ∷ []) [] log (said_on old idle said)
+        (one_move (at old idle) (at new turn) move log (between_idle (at old idle) move refl) (due_settled (at old idle) move waits) moves);
     text = notes_text said ++ (line ++ []);
     lines =
         text_on f (said_moves said) (move ∷ []) (notes_text said) (line ++ []) (text_said f said)
@@ -287,28 +289,30 @@ module _ (A : Type 0) {D : Type 0} (logs : D → D → List Transfer → Type 0)
   }
 
   -- one was made between requests, and others that do nothing with the device
-  pub several : {T : Type 0} (d e : D) (had has : Told) (old mid new : Driven) (said : List (Note A))
+  pub several : {T : Type 0} (d e : D) (had has : Told) (old mid new : Driven) (turn : Turn) (said : List (Note A))
       (move : Move A) (line : List ℕ) → IsLineOf f move line → (log : List Transfer) (First Rest : Move A → Type 0)
-      → First move → logs d e log → Moves (at old idle) move log (at mid idle) → (more : List (Move A)) → All Rest more
-      → MovesOn (at mid idle) more [] (at new idle) → (text : List ℕ) → IsTextOf f more text → (r : Result T Stop)
-      → EndsAs r (move ∷ more) → (IsSettled old → OnOk r (IsSettled new))
+      → First move → logs d e log → Moves (at old idle) move log (at mid turn) → (more : List (Move A)) → All Rest more
+      → MovesOn (at mid turn) more [] (at new turn) → (text : List ℕ) → IsTextOf f more text → (r : Result T Stop)
+      → EndsAs r (move ∷ more) → OnOk r (turn ≡ idle) → (IsSettled old → OnOk r (IsSettled new))
       → Gets r had.0 has.0 (notes_text said ++ (line ++ text)) → is_wrong_move move ≡ false
       → Tells r had.1 has.1 (is_any_wrong said || is_any_move_wrong more)
       → Goes A logs f d e had has old new r (FirstThen First Rest)
-  several d e had has old mid new said move line is log First Rest first over moves more are on text lines r came settled printed right told = record {
+  several d e had has old mid new turn said move line is log First Rest first over moves more are on text lines r came idles settled printed right told = record {
     moves = said_moves said ++ move ∷ more;
     are = after_said First Rest said (move ∷ more) (first_move move first more are);
     ends = ends_then (said_moves said) (move ∷ more) r (said_goes said) came;
-    turn = idle;
-    between = on_any r (◌≡◌ {A = Turn} idle idle) refl;
+    turn = turn;
+    between = idles;
     settled = settled;
     log = log;
     over = over;
     on =
-        λ waits. moves_on (at old idle) (at old idle) (at new idle) (said_moves said) (move ∷ more) [] log (said_on old said)
-        (subst (λ (l : List Transfer). MovesOn (at old idle) (move ∷ more) l (at new idle)) (append-nil log)
-        (moves_on (at old idle) (at mid idle) (at new idle) (move ∷ []) more log []
-        (one_move (at old idle) (at mid idle) move log refl (due_settled (at old idle) move waits) moves) on));
+        λ waits. moves_on (at old idle) (at old idle) (at new turn) (said_moves said) (move ∷ more) [] log
+        (said_on old idle said)
+        (subst (λ (l : List Transfer). MovesOn (at old idle) (move ∷ more) l (at new turn)) (append-nil log)
+        (moves_on (at old idle) (at mid turn) (at new turn) (move ∷ []) more log []
+        (one_move (at old idle) (at mid turn) move log (between_idle (at old idle) move refl) (due_settled (at old idle) move waits)
+        moves) on));
     text = notes_text said ++ (line ++ text);
     lines =
         text_on f (said_moves said) (move ∷ more) (notes_text said) (line ++ text) (text_said f said)
@@ -353,12 +357,12 @@ module _ (A : Type 0) {D : Type 0} (logs : D → D → List Transfer → Type 0)
       → Collects A f (notes_text said ++ line) (is_any_wrong said) had has mid new r
       → Goes A logs f d e had has old new r (FirstThen First IsCollected)
   collects_behind d e had has old mid new turn said move line says log First first none right over moves is r more =
-      several A logs f d e had has old mid new said move line says log First IsCollected first over
+      several A logs f d e had has old mid new idle said move line says log First IsCollected first over
       (subst (λ (t : Turn). Moves (at old idle) move log (at mid t)) is moves) more.moves more.are more.on more.text
       more.lines r
       (went r (move ∷ more.moves) (own_result r more.own)
       (All-cons (λ move. end_of move ≡ None) move more.moves none (collected_go more.moves more.are)))
-      (λ waits. more.settled)
+      (on_any r (◌≡◌ {A = Turn} idle idle) refl) (λ waits. more.settled)
       (subst (λ (l : List ℕ). Gets r had.0 has.0 l) (append_assoc (notes_text said) line more.text) more.printed) right
       more.told
 
@@ -431,12 +435,12 @@ module _ (A : Type 0) {D : Type 0} (logs : D → D → List Transfer → Type 0)
       → Gets r had has (nodes_text (codes "kernel") (counted_nodes driver.kernel.nodes) ++ notes_text said)
       → is_any_wrong said ≡ false → Goes A logs f d d (had, told) (has, told) driver driver r (FirstThen (IsMoveOf line.Show) Rest)
   shows_nodes d had has told driver r own Rest said rest printed right =
-      several A logs f d d (had, told) (has, told) driver driver driver [] (shows (counted_nodes driver.kernel.nodes))
+      several A logs f d d (had, told) (has, told) driver driver driver idle [] (shows (counted_nodes driver.kernel.nodes))
       (nodes_text (codes "kernel") (counted_nodes driver.kernel.nodes)) refl [] (IsMoveOf line.Show) Rest tt (stays d)
-      (refl, refl, refl) (said_moves said) rest (said_on driver said) (notes_text said) (text_said f said) r
+      (refl, refl, refl) (said_moves said) rest (said_on driver idle said) (notes_text said) (text_said f said) r
       (went r (shows (counted_nodes driver.kernel.nodes) ∷ said_moves said) (own_result r own)
       (All-cons (λ move. end_of move ≡ None) (shows (counted_nodes driver.kernel.nodes)) (said_moves said) refl (said_goes said)))
-      (λ is. on_any r (IsSettled driver) is) printed refl
+      (on_any r (◌≡◌ {A = Turn} idle idle) refl) (λ is. on_any r (IsSettled driver) is) printed refl
       (subst (λ (any : Bool). Tells r told told any) (sym (said_wrong said ∙ right)) (tells_nothing r told))
 
 -- ---- what is done with no device
@@ -494,7 +498,7 @@ said_alone f first is_first had has driver stop own said printed = record {
   are = said_collected said;
   own = own;
   settled = tt;
-  on = said_on driver said;
+  on = said_on driver idle said;
   text = notes_text said;
   lines = text_said f said;
   printed = printed;
@@ -561,7 +565,7 @@ said_within f had has old new r first is_first said one = record {
   own = one.own;
   settled = one.settled;
   on =
-      moves_on (at old idle) (at old idle) (at new idle) (said_moves said) one.moves [] [] (said_on old said) one.on;
+      moves_on (at old idle) (at old idle) (at new idle) (said_moves said) one.moves [] [] (said_on old idle said) one.on;
   text = notes_text said ++ one.text;
   lines = text_on f (said_moves said) one.moves (notes_text said) one.text (text_said f said) one.lines;
   printed = subst (λ (l : List ℕ). Gets r had.0 has.0 l) (append_assoc first (notes_text said) one.text) one.printed;
@@ -601,7 +605,7 @@ answer_on : {A : Type 0} (mid new : Driven) (call : ℕ) (answer : Answer A) (sa
     → MovesOn (at mid idle) (answer_moves call answer said) [] (at new idle)
 answer_on mid new call answer said collected =
     moves_on (at mid idle) (at new idle) (at new idle) (collects call answer ∷ []) (said_moves said) [] []
-    (one_move (at mid idle) (at new idle) (collects call answer) [] refl tt collected) (said_on new said)
+    (one_move (at mid idle) (at new idle) (collects call answer) [] refl tt collected) (said_on new idle said)
 
 answer_line : {A : Type 0} (f : Form) (call : ℕ) (answer : Answer A) (said : List (Note A))
     → IsTextOf f (answer_moves call answer said) (answer_text call answer ++ notes_text said)

@@ -14,6 +14,7 @@ use Rattle.fk_syscalls.specs.declared.call.Answer.{Answer}
 use Rattle.fk_kernel.specs.declared.pick.Pick.{Pick}
 use Rattle.fk_drive_frames.specs.declared.filling.FreeFields.{FreeFields}
 use Rattle.fk_drive.specs.Driving.{Driven, Turn, idle}
+use Rattle.fk_drive.specs.Releasing.{EndsBehind as EndsBehindFrame}
 use Rattle.fk_drive.specs.declared.end.DriveEnd.{DriveEnd}
 use Rattle.fk_drive.specs.declared.end.NotSent.{NotSent}
 use Rattle.fk_drive.specs.declared.end.NotSent.TheVariants.{Refused, Ended}
@@ -69,8 +70,8 @@ Sent A logs d e pick old new r = (fields : FreeFields) × (turn : Turn) × (log 
 -- the next frame was written
 abbrev pub Received : (A : Type 0) {D : Type 0} → (D → D → List Transfer → Type 0) → D → D → Driven → Driven
     → Result (Result (Written A) Refusal) DriveEnd → Type 0
-Received A logs d e old new r = (log : List Transfer) × logs d e log
-    × Moves {A = A} (at old idle) (writes r) log (at new idle)
+Received A logs d e old new r = (turn : Turn) × (log : List Transfer) × logs d e log
+    × Moves {A = A} (at old idle) (writes r) log (at new turn)
 
 module _ (A : Type 0) {D : Type 0} (logs : D → D → List Transfer → Type 0) (f : Form) (d e : D) (pick : Pick)
     (had has : Told) (old mid new : Driven) where
@@ -125,6 +126,12 @@ module _ (A : Type 0) {D : Type 0} (logs : D → D → List Transfer → Type 0)
 
 -- ---- frames
 
+-- no reply is awaited where the run goes on behind a frame
+between_frames : (end : Option DriveEnd) (new : Driven) (turn : Turn) (log : List Transfer) → end ≡ None
+    → EndsBehindFrame end (at new turn) log → turn ≡ idle
+between_frames None new turn log none is = is.1
+between_frames (Some end) new turn log none is = absurd (cc none)
+
 module _ (A : Type 0) {D : Type 0} (logs : D → D → List Transfer → Type 0) (f : Form) (d e : D)
     (had has : Told) (old mid new : Driven) where
   -- what is printed of a frame, and answers that are collected behind it
@@ -135,18 +142,18 @@ module _ (A : Type 0) {D : Type 0} (logs : D → D → List Transfer → Type 0)
   noted : {T : Type 0} (written : Written A) → Received A logs d e old mid (Ok (Ok written)) → (o : Option DriveEnd)
       → written.end ≡ o → (s : Result T Stop) → IfSome o (λ end. (new ≡ mid) × EndsBehind f written end had.0 has.0 s)
       → IfNone o (CollectsBehind written s) → Goes A logs f d e had has old new s (FirstThen IsWritten IsCollected)
-  noted written (log, over, moves) None none s some (before, line, says, more) =
-      collects_behind A logs f d e had has old mid new idle before (writes (Ok (Ok written))) line says log IsWritten tt none refl
-      over moves refl s more
-  noted written (log, over, moves) (Some end) ended (Ok x) some more = absurd some.1.failed
-  noted {T} written (log, over, moves) (Some end) ended (Err stop) some more =
+  noted written (turn, log, over, moves) None none s some (before, line, says, more) =
+      collects_behind A logs f d e had has old mid new turn before (writes (Ok (Ok written))) line says log IsWritten tt none refl
+      over moves (between_frames written.end mid turn log none moves.1) s more
+  noted written (turn, log, over, moves) (Some end) ended (Ok x) some more = absurd some.1.failed
+  noted {T} written (turn, log, over, moves) (Some end) ended (Err stop) some more =
       let behind = some.1 in
       let Are : List (Move A) → Type 0 = FirstThen IsWritten IsCollected in
       subst (λ (n : Driven). Goes A {T = T} logs f d e had has old n (Err stop) Are) (sym some.0)
-      (several A logs f d e had has old mid mid behind.before (writes (Ok (Ok written))) behind.line behind.is log IsWritten
-      IsCollected tt over moves (said_moves behind.after) (said_collected behind.after) (said_on mid behind.after)
+      (several A logs f d e had has old mid mid turn behind.before (writes (Ok (Ok written))) behind.line behind.is log IsWritten
+      IsCollected tt over moves (said_moves behind.after) (said_collected behind.after) (said_on mid turn behind.after)
       (notes_text behind.after) (text_said f behind.after) (Err stop)
-      (ended_at stop (writes (Ok (Ok written))) behind.after end ended behind.stop) (λ settled. tt) behind.printed refl tt)
+      (ended_at stop (writes (Ok (Ok written))) behind.after end ended behind.stop) tt (λ settled. tt) behind.printed refl tt)
 
   -- a frame was written and noted, and answers were collected where the run goes on behind it
   pub frame_noted : {T : Type 0} (r : Result (Result (Written A) Refusal) DriveEnd) (written : Written A)
@@ -168,15 +175,15 @@ module _ (A : Type 0) {D : Type 0} (logs : D → D → List Transfer → Type 0)
       → Tells s had.1 has.1 (is_any_wrong before)
       → Goes A logs f d e had has old new s (Perhaps s (FirstThen IsWritten IsCollected))
   frame_refused r refusal is received s own before printed told =
-      let (log, over, moves) =
+      let (turn, log, over, moves) =
       subst (λ (t : Result (Result (Written A) Refusal) DriveEnd). Received A logs d e old new t) is received in
       weaker A logs f d e had has old new s (FirstThen IsWritten IsCollected) (Perhaps s (FirstThen IsWritten IsCollected))
-      (one_goes A logs f d e had has old new idle before (writes (Ok (Err refusal))) (of_frame f (refusal_text A refusal)) refl
+      (one_goes A logs f d e had has old new turn before (writes (Ok (Err refusal))) (of_frame f (refusal_text A refusal)) refl
       log IsWritten IsCollected tt over moves s
       (one_went {A = A} s (writes (Ok (Err refusal))) (own_result s own) refl)
-      (on_any s (◌≡◌ {A = Turn} idle idle) refl)
+      (on_any s (turn ≡ idle) moves.2)
       (λ settled. on_any s (IsSettled new)
-      (ap (λ (k : Kernel). k.vfs.answers) (receives_keep (at old idle) log (at new idle) moves.0) ∙ settled)) printed refl
+      (ap (λ (k : Kernel). k.vfs.answers) (receives_keep (at old idle) log (at new turn) moves.0) ∙ settled)) printed refl
       told)
       (perhaps s (FirstThen IsWritten IsCollected))
 
@@ -187,11 +194,11 @@ module _ (A : Type 0) {D : Type 0} (logs : D → D → List Transfer → Type 0)
       → Goes A {T = T} logs f d e had has old new (Err stop)
       (Perhaps {T = T} {E = Stop} (Err stop) (FirstThen IsWritten IsCollected))
   frame_ended {T} r end is received stop why before printed =
-      let (log, over, moves) =
+      let (turn, log, over, moves) =
       subst (λ (t : Result (Result (Written A) Refusal) DriveEnd). Received A logs d e old new t) is received in
       weaker A logs f d e had has old new (Err stop) (FirstThen IsWritten IsCollected)
       (Perhaps {T = T} {E = Stop} (Err stop) (FirstThen IsWritten IsCollected))
-      (one_goes A logs f d e had has old new idle before (writes (Err end)) [] refl log IsWritten IsCollected tt over moves
+      (one_goes A logs f d e had has old new turn before (writes (Err end)) [] refl log IsWritten IsCollected tt over moves
       (Err stop) (ended_at stop (writes (Err end)) [] end refl why) tt (λ settled. tt)
       (subst (λ (l : List ℕ). GetsAt stop had.0 has.0 l) (sym (append-nil (notes_text before))) printed) refl tt)
       (perhaps {T = T} (Err stop) (FirstThen IsWritten IsCollected))

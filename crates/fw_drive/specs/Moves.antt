@@ -60,11 +60,16 @@ IsDue old (collects call answer) = Unit {0}
 IsDue old (notes note) = Unit {0}
 IsDue old move = IsSettled old
 
--- Moves follow one another, each between requests.
+-- A move that does something is made between requests.
+abbrev pub IsBetween : {A : Type 0} → Driven → Move A → Type 0
+IsBetween old (notes note) = Unit {0}
+IsBetween old move = old.turn ≡ idle
+
+-- Moves follow one another.
 pub data MovesOn {A : Type 0} (old : Driven) : List (Move A) → List Transfer → Driven → Type 0 where
   no_move : MovesOn old [] [] old
   next_move : (moves : List (Move A)) (before : List Transfer) (mid : Driven) → MovesOn old moves before mid
-      → mid.turn ≡ idle → (move : Move A) → IsDue mid move → (log : List Transfer) (new : Driven) → Moves mid move log new
+      → (move : Move A) → IsBetween mid move → IsDue mid move → (log : List Transfer) (new : Driven) → Moves mid move log new
       → MovesOn old (moves ++ move ∷ []) (before ++ log) new
 
 -- Why the run came to its end at a move, if it did.

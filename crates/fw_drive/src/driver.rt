@@ -32,6 +32,8 @@ pub(crate) struct Driver<T: Tables> {
     kernel: KernelOf<T::Queues, T::Counts>,
     connection: Connection<T::Heap>,
     free_fields: FreeFields,
+    /// The number that the next call gets: the kernel numbers calls from 1 on, and a new mount goes on.
+    next_call: u64,
 }
 
 // What is driven, between requests.
@@ -57,6 +59,7 @@ impl<T: Tables> Driver<T> {
             kernel: KernelOf::new(alloc),
             connection: Connection::new(alloc, asks),
             free_fields,
+            next_call: 1,
         }
     }
 
@@ -67,6 +70,7 @@ impl<T: Tables> Driver<T> {
             kernel,
             connection,
             free_fields: _,
+            next_call: _,
         } = self;
         kernel.end();
         drop(connection);
@@ -89,7 +93,15 @@ impl<T: Tables> Driver<T> {
         ensures err { OnErr result (self.new.kernel ≡ self.old.kernel) }
         ensures same { self.new ≡ record self.old { kernel = self.new.kernel } }
     {
-        act(&mut self.kernel, event)
+        match act(&mut self.kernel, event) {
+            Ok(outcome) => {
+                if let Outcome::Begun { call } = outcome {
+                    self.next_call = call.saturating_add(1);
+                }
+                Ok(outcome)
+            }
+            Err(refusal) => Err(refusal),
+        }
     }
 
     /// The answer of the lowest call that has one. It is collected then.
@@ -133,8 +145,8 @@ impl<T: Tables> Driver<T> {
         )
     }
 
-    /// Writes the next frame of the server to the kernel. What is not for the kernel is noted as it comes. `Err` of the
-    /// inner result is why the kernel refuses: the frame then waits.
+    /// Writes the next frame of the server to the kernel. Where RELEASEDIR goes behind it, its reply is awaited. What is not
+    /// for the kernel is noted as it comes. `Err` of the inner result is why the kernel refuses: the frame then waits.
     ///
     /// # Errors
     ///
@@ -145,8 +157,8 @@ impl<T: Tables> Driver<T> {
         notes: &mut N,
         out: &mut O,
     ) -> Result<Result<Written<T::Heap>, Refusal>, DriveEnd>
-        ensures moves { (log : List Transfer) × D.logs device.old device.new log
-            × Moves {A = T.Heap} (at self.old idle) (writes result) log (at self.new idle) }
+        ensures moves { (turn : Turn) × (log : List Transfer) × D.logs device.old device.new log
+            × Moves {A = T.Heap} (at self.old idle) (writes result) log (at self.new turn) }
         ensures noted { HasNoted N.notes notes.old notes.new out.old out.new }
     {
         write_next(&mut self.kernel, &mut self.connection, device, notes, out)
@@ -171,6 +183,7 @@ impl<T: Tables> Driver<T> {
             pending,
             is_interrupting: self.kernel.read_refusal(Pick::Interrupt).is_none(),
             is_forgetting: self.kernel.read_refusal(Pick::Forgets(1)).is_none(),
+            next_call: self.next_call,
         }
     }
 

@@ -220,8 +220,8 @@ fn receive_printing<T: Tables, D: Device, W: Write>(
     Result<Result<Written<T::Heap>, Refusal>, DriveEnd>,
     Result<(), Stop>,
 )
-    ensures moves { (log : List Transfer) × D.logs device.old device.new log
-        × Moves {A = T.Heap} (at driver.old idle) (writes result.0) log (at driver.new idle) }
+    ensures moves { (turn : Turn) × (log : List Transfer) × D.logs device.old device.new log
+        × Moves {A = T.Heap} (at driver.old idle) (writes result.0) log (at driver.new turn) }
     ensures printed { HasPrinted T.Heap result.1
         (W.contents out.old, notes.old.is_wrong) (W.contents out.new, notes.new.is_wrong) }
 {

@@ -33,6 +33,8 @@ pub struct Standing {
     pub is_interrupting: bool,
     /// Whether a forget may be read.
     pub is_forgetting: bool,
+    /// The number that the next call gets.
+    pub next_call: u64,
 }
 
 /// What gives the lines of a script one at a time, each once the one before was run, beside an output.

@@ -42,7 +42,7 @@ pub(crate) struct Watch<A: Allocator + Copy> {
     nodes: Table<NodeFile, A>,
     /// The numbers of OPENDIR and RELEASEDIR that are answered.
     opendirs: Table<(), A>,
-    /// How many frames wait for the kernel that were no reply to OPENDIR by their head.
+    /// How many frames wait for the kernel that were no reply to OPENDIR or RELEASEDIR by their head.
     waiting_faults: u64,
 }
 
@@ -201,15 +201,16 @@ impl<A: Allocator + Copy> Watch<A> {
         }
     }
 
-    /// What is wrong with a frame that is noted as it comes. The first reply to OPENDIR is awaited, so that what is set
-    /// aside is the first to RELEASEDIR, which has no body, or the second to either.
+    /// What is wrong with a frame that is noted as it comes. The first reply to OPENDIR and RELEASEDIR is awaited, so that
+    /// what is set aside is the second.
     pub(crate) fn judge_noted(&mut self, noted: Noted) -> Result<Option<Fault>, AllocError> {
         match noted {
             Noted::SetAside(OtherFrame::Notification { .. }) => Ok(None),
             Noted::SetAside(OtherFrame::OpendirReply { unique, len, .. }) => {
                 self.judge_opendir(unique, len == HEAD)
             }
-            Noted::OpendirReply { unique, is_whole } => self.judge_opendir(unique, is_whole),
+            Noted::OpendirReply { unique, is_whole }
+            | Noted::ReleasedirReply { unique, is_whole } => self.judge_opendir(unique, is_whole),
             Noted::NoOpendirReply { .. } => {
                 self.waiting_faults = self.waiting_faults.saturating_add(1);
                 Ok(Some(Fault::NoReply))
@@ -217,7 +218,7 @@ impl<A: Allocator + Copy> Watch<A> {
         }
     }
 
-    /// What is wrong with a frame that is no reply by its head. Of one to OPENDIR that was said as it came.
+    /// What is wrong with a frame that is no reply by its head. Of one to OPENDIR or RELEASEDIR that was said as it came.
     fn judge_headless(&mut self, frame: &[u8]) -> Option<Fault> {
         if self.waiting_faults > 0 && has_opendir_unique(frame) {
             self.waiting_faults -= 1;

@@ -1,5 +1,4 @@
-use Rattle.fk_drive.specs.Driving.{idle}
 use Rattle.fw_drive.proofs.driver.Driver.receive.Goals as goal
 
 pub returns-clause-moves : goal.returns-clause-moves
-returns-clause-moves g c = rw (← c.self.view_is) (c.write_next.ensures.writes idle)
+returns-clause-moves g c = rw (← c.self.view_is) c.write_next.ensures.writes

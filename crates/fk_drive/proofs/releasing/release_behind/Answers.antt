@@ -3,7 +3,7 @@ use Rattle.fk_wire.specs.Opcodes.{latest_minor}
 use Rattle.fk_wire.specs.declared.opcode.Opcode.TheVariants as op
 use Rattle.fk_kernel.proofs.Heads.{has_head, no_head}
 use Rattle.fk_drive.specs.Driving.{releases_none}
-use Rattle.fk_drive.proofs.writing.release_behind.Goals as goal
+use Rattle.fk_drive.proofs.releasing.release_behind.Goals as goal
 
 pub returns-in-Ok-clause-releases : goal.returns-in-Ok-clause-releases
 returns-in-Ok-clause-releases g c =
