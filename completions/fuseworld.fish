@@ -57,6 +57,7 @@ complete -c fuseworld -n '__fish_seen_subcommand_from drive' -l beside -d 'Compa
 complete -c fuseworld -n '__fish_seen_subcommand_from drive' -l no-opendir -d 'Do not open a directory before it is listed'
 complete -c fuseworld -n '__fish_seen_subcommand_from drive' -l trace -d 'Print each frame in words'
 complete -c fuseworld -n '__fish_seen_subcommand_from drive' -l check -d 'Print each fault as its frame goes over'
+complete -c fuseworld -n '__fish_seen_subcommand_from drive' -l json -d 'Print a JSON object for each line'
 complete -c fuseworld -n '__fish_seen_subcommand_from drive' -l report-only -d 'Exit with status 0 also where the server was wrong'
 complete -c fuseworld -n '__fish_seen_subcommand_from drive' -l capture -r -F -d 'Write what goes over the device to this file'
 complete -c fuseworld -n '__fish_seen_subcommand_from drive' -l wait -x -d 'How many milliseconds a reply is waited for'

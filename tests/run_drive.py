@@ -605,6 +605,24 @@ def run_check():
     judge("no file", (lines, status), (["cannot write /nowhere/capture: No such file or directory (os error 2)"], 1))
 
 
+# --- lines as JSON objects
+
+def run_json():
+    """Each line as an object, with keys that say what its words are."""
+    begun = ['{"event":"mounted","schema":1}', '{"event":"read","unique":2,"opcode":"INIT","len":56}', '{"event":"written","unique":2,"result":0}',
+             '{"event":"call","call":1}', '{"event":"read","unique":4,"opcode":"GETATTR","len":56}']
+    lines, status = on_frames(["--json"], STAT, AGREES, [NOTICE, ATTR])
+    judge("--json", (lines, status), ([*begun, '{"event":"notification","code":2,"len":40}', '{"event":"written","unique":4,"result":0}',
+          '{"event":"answer","call":1,"error":0,"values":["dir","1","0","1"]}', '{"event":"kernel","nodes":[]}'], 0))
+    lines, status = on_frames(["--json", *SHORT_WAIT], STAT, AGREES)
+    judge("--json of no reply", (lines, status), ([*begun, '{"event":"end","text":"no reply"}'], 4))
+    lines, status = on_frames(["--json", "--check"], STAT, AGREES, [reply(4, bytes(8))])
+    judge("--json of faults", (lines, status), ([*begun,
+          '{"event":"fault","schema":1,"party":"server","frame":5,"text":"frame 5: server: body that is not its request\'s"}',
+          '{"event":"written","unique":4,"result":22}', '{"event":"fault","text":"body is not its request\'s"}',
+          '{"event":"answer","call":1,"error":5,"values":[]}', '{"event":"kernel","nodes":[]}'], 6))
+
+
 # --- lines that a seed chooses
 
 def on_packets(words):
@@ -641,7 +659,7 @@ def run_random():
     judge("a seed: a bug is found", (status, any(FAULTS.search(line) for line in lines)), (6, True))
 
 
-for part in (run_bugs, run_otherwise, run_fields, run_frames, run_abort, run_closings, run_agreements, run_opendir, run_opendir_bugs, run_releasedir, run_many, run_talking, run_refusals, run_waits, run_words, run_input, run_packets, run_trace, run_check, run_random):
+for part in (run_bugs, run_otherwise, run_fields, run_frames, run_abort, run_closings, run_agreements, run_opendir, run_opendir_bugs, run_releasedir, run_many, run_talking, run_refusals, run_waits, run_words, run_input, run_packets, run_trace, run_check, run_json, run_random):
     part()
 print(f"{judging.passed} passed, {judging.failed} failed")
 sys.exit(bool(judging.failed))

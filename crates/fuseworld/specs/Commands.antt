@@ -65,12 +65,13 @@ serve_app minors = with_rule (with_rule (with_rule (with_rule (with_rule (with_r
     (new_rule (codes "SOCK"))
 
 abbrev pub drive_app : App
-drive_app = with_rule (with_rule (with_rule (with_rule (with_rule (with_rule (with_rule (with_rule (with_rule (with_rule
+drive_app = with_rule (with_rule (with_rule (with_rule (with_rule (with_rule (with_rule (with_rule (with_rule (with_rule (with_rule
     (with_rule (with_rule (with_rule (with_rule (with_rule (new_app (codes "drive"))
     (flag (codes "calls")))
     (flag (codes "beside")))
     (flag (codes "no-opendir")))
     (flag (codes "trace")))
+    (flag (codes "json")))
     (number (codes "wait") 1 longest (codes "10000")))
     (option (codes "offer") (codes "0")))
     (flag (codes "check")))

@@ -112,6 +112,7 @@ pub record AsksDrive (rows : List Row) (t : DriveTask) : Type 0 where
   pub form : t.form ≡ form_of (is_set (codes "calls") rows) (is_set (codes "beside") rows)
   pub opens : t.opens_directories ≡ not (is_set (codes "no-opendir") rows)
   pub trace : t.is_traced ≡ is_set (codes "trace") rows
+  pub json : t.is_json ≡ is_set (codes "json") rows
   pub check : t.is_checked ≡ is_set (codes "check") rows || is_set (codes "random") rows
   pub capture : option_map (λ text. text.now) t.capture ≡ first_of (codes "capture") rows
   pub wait : t.wait_ms ≡ number_of (codes "wait") 10000 rows

@@ -22,6 +22,7 @@ use fuse_device::{Device, PacketDevice, StreamDevice};
 use fw_drive::{
     DriveTrace, Form, FreeFields, InputLines, Task, read_drive_script, run_drive, run_source,
 };
+use fw_json::JsonLines;
 use fw_judged::JudgedServer;
 use fw_output::{LimitedWriter, room_in_file};
 use fw_random::{Commented, RandomLines};
@@ -47,6 +48,8 @@ pub struct DriveTask<'a> {
     form: Form,
     opens_directories: bool,
     is_traced: bool,
+    /// Whether each line is printed as a JSON object.
+    is_json: bool,
     /// Whether what goes over the device is judged, and each fault printed.
     is_checked: bool,
     /// The file to which a capture is written, if one is asked for.
@@ -188,6 +191,11 @@ pub fn drive_command<'a>(alloc: Global) -> Result<Command<'a>, AllocError>
             "trace",
             "Print each frame in words, on standard error",
         ))?
+        .arg(flag(
+            alloc,
+            "json",
+            "Print a JSON object for each line",
+        ))?
         .arg(wait)?
         .arg(offer_argument(alloc))?;
     with_places(alloc, with_draws(alloc, with_findings(alloc, command)?)?)
@@ -225,6 +233,7 @@ pub fn drive_task<'a>(matches: &ArgMatches<'a>) -> DriveTask<'a>
         form: form(matches),
         opens_directories: !is_set(matches, "no-opendir"),
         is_traced: is_set(matches, "trace"),
+        is_json: is_set(matches, "json"),
         is_checked: is_set(matches, "check") || is_set(matches, "random"),
         capture: text_or_none(matches, "capture"),
         wait_ms: number(matches, "wait", 10_000),
@@ -459,6 +468,27 @@ fn drive_said<D: Device + Drop, W: Write + Drop, F: Write + Drop>(
     drive_captured(rt, asked, task, script, file, device, out, lines)
 }
 
+/// Drives a server over a device, with a JSON object for each line where that is asked for.
+fn drive_printed<D: Device + Drop, W: Write + Drop, F: Write + Drop>(
+    rt: &HostRuntime,
+    asked: DriveTask<'_>,
+    task: Task<'_>,
+    script: Lines<'_>,
+    file: Option<File>,
+    device: D,
+    out: W,
+    lines: F,
+) -> u8
+    ensures { Contains drive_statuses result }
+{
+    if !asked.is_json {
+        return drive_said(rt, asked, task, script, file, device, out, lines);
+    }
+    let out = JsonLines::new(rt.alloc(), out);
+    let lines = JsonLines::new(rt.alloc(), lines);
+    drive_said(rt, asked, task, script, file, device, out, lines)
+}
+
 /// Drives the server on standard input and output, or on a socket, and gives the exit status.
 fn drive_place(
     rt: &HostRuntime,
@@ -472,14 +502,14 @@ fn drive_place(
     let Some(path) = socket_of(asked) else {
         let device = PacketDevice::giving_up(rt.reader(), io::writer(rt));
         let (out, lines) = (rt.stderr(), rt.stderr());
-        return drive_said(rt, asked, task, script, file, device, out, lines);
+        return drive_printed(rt, asked, task, script, file, device, out, lines);
     };
     let deadline = Deadline::new(rt, asked.wait_ms);
     match connect(&deadline, path) {
         Ok((reader, writer)) => {
             let device = StreamDevice::of_replies(reader, writer);
             let (out, lines) = (standard_output(rt), standard_output(rt));
-            drive_said(rt, asked, task, script, file, device, out, lines)
+            drive_printed(rt, asked, task, script, file, device, out, lines)
         }
         Err(error) if error.kind() == ErrorKind::OutOfMemory => no_memory(&mut rt.stderr()),
         Err(error) => no_socket(rt, &error),
