@@ -8,8 +8,7 @@ ghost use Rattle.fw_drive.specs.Judging.{JudgingEnds, Say, bad_status, bad_text}
 
 use crate::form::Form;
 use crate::line::{DriveLine, read_any};
-use crate::parts::Lines;
-use fw_script::{LineFault, bad_line, no_memory};
+use fw_script::{LineFault, Lines, bad_line, no_memory};
 use std::alloc::Allocator;
 use std::io::Write;
 

@@ -7,9 +7,9 @@ ghost use Rattle.fw_json.specs.Putting.{PutsIf};
 ghost use Rattle.fw_script.specs.Words.{words_left, words_of};
 
 use crate::key::Key;
-use crate::parts::{Words, split_at};
 use crate::string::put_string;
 use crate::text::put;
+use fw_script::{Words, split_at};
 use std::alloc::{AllocError, Allocator};
 
 /// Whether a byte is a decimal digit.

@@ -7,7 +7,6 @@ mod judged;
 mod key;
 mod lines;
 mod object;
-mod parts;
 mod string;
 #[cfg(test)]
 mod tests;

@@ -1,6 +1,6 @@
 //! An output of lines that writes them as objects.
 
-ghost use Rattle.std.specs.Prelude.{◌≡◌, ◌<◌, ◌++◌, [], ℕ, IfOk, List, OnErr, OnOk, Option, false, is_err, length, take, true};
+ghost use Rattle.std.specs.Prelude.{◌≡◌, ◌<◌, ◌++◌, ◌==◌, [], ℕ, IfOk, List, OnErr, OnOk, Option, false, is_err, length, position, take, true};
 ghost use Rattle.std.specs.Io.KnownBytes.{Appends, Keeps};
 ghost use Rattle.std.specs.Io.{WritesAtMost};
 ghost use Rattle.fw_script.specs.Outputs.{AppendsSome};
@@ -8,11 +8,17 @@ ghost use Rattle.fw_json.specs.Objects.{json_line};
 ghost use Rattle.fw_json.specs.Texts.{HasWritten, first_line};
 
 use crate::object::make_object;
-use crate::parts::find;
 use crate::text::put;
 use fw_script::write_text;
 use std::alloc::Allocator;
 use std::io::{Error, ErrorKind, Result, Write};
+
+/// The place of the first line feed.
+fn find_feed(text: &[u8]) -> Option<usize>
+    ensures { result ≡ position (λ byte. byte == 10) text.now }
+{
+    text.iter().position(|byte| *byte == b'\n')
+}
 
 /// A writer that takes text, and writes each line that a line feed ends as a JSON object to another writer: a line each.
 /// What stands behind the last line feed waits. Where the other writer refuses or memory is out, it takes no more.
@@ -98,7 +104,7 @@ impl<W: Write + Drop, A: Allocator + Copy> JsonLines<W, A> {
         ensures refused { OnErr result (AppendsSome (W.contents self.old.writer) (W.contents self.new.writer)
             (json_line self.old.is_first (self.old.line.items ++ first_line bytes.now))) }
     {
-        match find(bytes, b'\n') {
+        match find_feed(bytes) {
             Some(end) => {
                 self.end_line(&bytes[..end])?;
                 Ok(end + 1)

@@ -9,8 +9,8 @@ use crate::event::Event;
 use crate::field::{put_fields, put_key, put_string_field};
 use crate::judged::{Judged, read_judged};
 use crate::key::Key;
-use crate::parts::split_at;
 use crate::text::put;
+use fw_script::split_at;
 use std::alloc::{AllocError, Allocator};
 
 /// Puts what an object begins with.

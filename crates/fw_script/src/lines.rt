@@ -16,13 +16,13 @@ use std::alloc::Allocator;
 
 /// What is left of a script, line by line.
 #[derive(Drop)]
-pub(crate) struct Lines<'a> {
+pub struct Lines<'a> {
     rest: Option<&'a [u8]>,
 }
 
 impl<'a> Lines<'a> {
     /// The lines of a script: what stands before, between and after its line feeds.
-    pub(crate) fn of(script: &'a [u8]) -> Lines<'a>
+    pub fn of(script: &'a [u8]) -> Lines<'a>
         ensures { lines_left (option_copied result.rest) ≡ lines_of script.now }
     {
         Lines { rest: Some(script) }

@@ -25,6 +25,15 @@ pub(crate) fn find_near(text: &[u8], separator: u8) -> Option<usize>
     text.iter().position(|byte| *byte == separator)
 }
 
+/// The first part of a text, and the text behind the separator that ends it, if one does. A part is short as a rule.
+#[inline(always)]
+pub fn split_at(text: &[u8], separator: u8) -> (&[u8], Option<&[u8]>)
+    ensures { slice_split (λ byte. byte == separator) text.now
+        ≡ result.0.now ∷ parts_left separator (option_copied result.1) }
+{
+    split_at_first(text, separator, find_near(text, separator))
+}
+
 /// What stands before the first separator, whose place this is, and what stands after it, if there is one.
 #[inline(always)]
 pub(crate) fn split_at_first(

@@ -1,16 +1,17 @@
 //! The words of a line. One space separates two.
 
 ghost use Rattle.std.specs.Prelude.{◌≡◌, ◌∷◌, [], MatchOption, option_copied};
+ghost use Rattle.std.specs.Iterator.{YieldsFirstRef, item_count};
 ghost use Rattle.fw_script.specs.Words.{words_of, words_left, HasWords};
 
-use crate::split::{find_far, find_near, split_at_first};
+use crate::split::{find_far, split_at, split_at_first};
 
 /// The first word of a text, which is short as a rule, and the text after the space that ends it, if a space does.
 #[inline(always)]
-pub(crate) fn split_word(text: &[u8]) -> (&[u8], Option<&[u8]>)
+pub fn split_word(text: &[u8]) -> (&[u8], Option<&[u8]>)
     ensures { words_of text.now ≡ result.0.now ∷ words_left (option_copied result.1) }
 {
-    split_at_first(text, b' ', find_near(text, b' '))
+    split_at(text, b' ')
 }
 
 /// The first word of a text, which may be long, and the text after the space that ends it, if a space does.
@@ -60,4 +61,34 @@ pub(crate) fn three_words(rest: Option<&[u8]>) -> Option<(&[u8], &[u8], &[u8])>
     }
     let (second, third) = two_words(rest)?;
     Some((first, second, third))
+}
+
+/// The words of the rest of a line, one after another.
+#[derive(Drop)]
+pub struct Words<'a> {
+    rest: Option<&'a [u8]>,
+}
+
+impl<'a> Words<'a> {
+    /// The words that are left, if there are any.
+    pub fn left(rest: Option<&'a [u8]>) -> Words<'a>
+        ensures { words_left (option_copied result.rest) ≡ words_left (option_copied rest.entry) }
+    {
+        Words { rest }
+    }
+}
+
+impl<'a> Iterator for Words<'a> {
+    type Item = &'a [u8];
+
+    ghost next_gives = { YieldsFirstRef (λ words. words_left (option_copied words.rest)) };
+
+    ghost remaining = { item_count (λ words. words_left (option_copied words.rest)) };
+
+    fn next(&mut self) -> Option<&'a [u8]> {
+        let text = self.rest?;
+        let (word, rest) = split_word(text);
+        self.rest = rest;
+        Some(word)
+    }
 }

@@ -1,6 +1,6 @@
 //! Lines that are no events, and lines that are passed over.
 
-use fw_script::run_script;
+use fw_script::{Lines, Words, run_script, split_at, split_word};
 use std::alloc::Global;
 use std::process::Abort;
 use std::test::Fail;
@@ -167,5 +167,52 @@ fn passes_over_notes_and_empty_lines(rt: HostRuntime) -> Result<(), Fail> {
         b"\n# a note\n#\n\nmount 86400001 0\n\ntake 18446744073709551615\n# the last line".as_slice();
     let output = b"refused 9 BadTime\nrefused 2 NoSuch\n".as_slice();
     assert!(rt; run_gives(rt.alloc(), script, 0, output, b""));
+    Ok(())
+}
+
+/// What is left of the parts that are wanted behind one, if that is the first.
+fn left_behind<'a>(wanted: &'a [&'a [u8]], part: &[u8]) -> Option<&'a [&'a [u8]]> {
+    match wanted.split_first() {
+        Some((first, rest)) if *first == part => Some(rest),
+        _ => None,
+    }
+}
+
+/// Whether a script has these lines.
+fn are_lines(script: &[u8], wanted: &[&[u8]]) -> bool {
+    let mut rest = wanted;
+    for line in Lines::of(script) {
+        match left_behind(rest, line) {
+            Some(left) => rest = left,
+            None => return false,
+        }
+    }
+    rest.is_empty()
+}
+
+/// Whether these words are left.
+fn are_words(text: Option<&[u8]>, wanted: &[&[u8]]) -> bool {
+    let mut rest = wanted;
+    for word in Words::left(text) {
+        match left_behind(rest, word) {
+            Some(left) => rest = left,
+            None => return false,
+        }
+    }
+    rest.is_empty()
+}
+
+#[test]
+fn splits_lines_and_words(rt: HostRuntime) -> Result<(), Fail> {
+    assert!(rt;
+        split_at(b"frame 9: server: x", b':')
+            == (b"frame 9".as_slice(), Some(b" server: x".as_slice()))
+    );
+    assert!(rt; split_at(b"frame", b':') == (b"frame".as_slice(), None));
+    assert!(rt; split_word(b"call stat /") == (b"call".as_slice(), Some(b"stat /".as_slice())));
+    assert!(rt; split_word(b"") == (b"".as_slice(), None));
+    assert!(rt; are_lines(b"a\n\nb\n", &[b"a", b"", b"b", b""]));
+    assert!(rt; are_words(Some(b"a  b"), &[b"a", b"", b"b"]));
+    assert!(rt; are_words(None, &[]));
     Ok(())
 }

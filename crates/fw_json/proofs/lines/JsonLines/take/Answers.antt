@@ -11,7 +11,7 @@ use Rattle.fw_json.proofs.lines.JsonLines.take.Goals as goal
 pub returns-in_err-end_line-in-Some-clause-refused :
     goal.returns-in_err-end_line-in-Some-clause-refused
 returns-in_err-end_line-in-Some-clause-refused g c =
-    let split = rw c.in-Some.is at (split_at_position 10 c.args.bytes.now c.find.result c.find.ensures) in
+    let split = rw c.in-Some.is at (split_at_position 10 c.args.bytes.now c.find_feed.result c.find_feed.ensures) in
     OnErr-always _ c.from_residual.result
     (subst (λ (l : List ℕ). AppendsSome (g.W.Write.contents c.args.self.now.writer)
     (g.W.Write.contents c.end_line.new.self.writer)
@@ -21,7 +21,7 @@ returns-in_err-end_line-in-Some-clause-refused g c =
 pub returns-in_ok-end_line-in-Some-clause-written :
     goal.returns-in_ok-end_line-in-Some-clause-written
 returns-in_ok-end_line-in-Some-clause-written g c start text has =
-    let cut = rw c.in-Some.is at (cut_at_feed c.args.bytes.now c.find.result c.find.ensures) in
+    let cut = rw c.in-Some.is at (cut_at_feed c.args.bytes.now c.find_feed.result c.find_feed.ensures) in
     let ok = c.in_ok-end_line-in-Some.ensures in
     one_more_written start (g.W.Write.contents c.args.self.now.writer) (g.W.Write.contents c.end_line.new.self.writer)
     text (take (c.in-Some.end + 1) c.args.bytes.now) (take c.in-Some.end c.args.bytes.now) c.args.self.now.line.items
@@ -29,7 +29,7 @@ returns-in_ok-end_line-in-Some-clause-written g c start text has =
 
 pub returns-in_ok-keep-in-None-clause-written : goal.returns-in_ok-keep-in-None-clause-written
 returns-in_ok-keep-in-None-clause-written g c start text has =
-    let cut = rw c.in-None.is at (cut_at_feed c.args.bytes.now c.find.result c.find.ensures) in
+    let cut = rw c.in-None.is at (cut_at_feed c.args.bytes.now c.find_feed.result c.find_feed.ensures) in
     kept_all g.W.Write.contents start c.args.self.now.writer c.keep.new.self.writer text c.args.bytes.now
     c.args.self.now.line.items c.keep.new.self.line.items c.args.self.now.is_first c.keep.new.self.is_first has cut
     c.in_ok-keep-in-None.ensures.ok c.keep.ensures.same.0 c.keep.ensures.same.1
