@@ -61,8 +61,8 @@ pub(crate) fn fit_in(shape: ReplyShape, asked: u32, bytes: &[u8]) -> Fit
     }
 }
 
-/// Whether the device is to accept the body of what is a reply to a request of an opcode. It looks at sizes, as the reading
-/// of a reply does, which leaves open what it takes of bytes alone: of IOCTL.
+/// Whether the device is to accept a body that was read as a reply to a request of an opcode. The reading judged its size,
+/// but of bytes, which it takes in any number: of IOCTL they may be too many. What was agreed is that of the reading.
 #[inline(always)]
 pub(crate) fn fit_of_reply(
     agreed: Agreed,
