@@ -131,15 +131,6 @@ impl<A: Allocator + Copy> RandomLines<A> {
         most: u64,
         line: &mut Vec<u8, B>,
     ) -> Result<bool, NoLine> {
-        if standing.is_forgetting && self.rounds.known.is_releasing {
-            // No node is forgotten whose RELEASEDIR is under way.
-            if !self.is_quiet(standing) {
-                return Ok(false);
-            }
-            self.rounds.known.is_releasing = false;
-            put(line, b"call stat /")?;
-            return Ok(true);
-        }
         if standing.is_forgetting {
             put(line, b"read f ")?;
             put_number(line, self.rounds.chance.below(most).saturating_add(1))?;
@@ -227,13 +218,11 @@ impl<A: Allocator + Copy> RandomLines<A> {
         line: &mut Vec<u8, B>,
     ) -> Result<(), NoLine> {
         if self.is_burst {
-            // No node is forgotten whose RELEASEDIR is under way.
-            let forgets = !self.rounds.known.group.has_listing();
             match self.rounds.chance.below(16) {
                 0..=4 if self.put_round(line)? => return Ok(()),
-                5 if forgets => return self.rounds.put_idle(line),
+                5 => return self.rounds.put_idle(line),
                 6 | 7 if standing.calls > 0 => return self.put_signal(line),
-                8 if forgets && self.put_forget(standing, 2, line)? => return Ok(()),
+                8 if self.put_forget(standing, 2, line)? => return Ok(()),
                 _ => {}
             }
         }

@@ -151,13 +151,6 @@ impl<A: Allocator + Copy> Group<A> {
         self.answered > 0 && self.answered >= self.calls.len()
     }
 
-    /// Whether one of the calls lists a directory.
-    pub(crate) fn has_listing(&self) -> bool {
-        self.calls.as_slice().iter().any(|called| {
-            matches!(word_at(called.line.as_slice(), 1), b"list" | b"listplus")
-        })
-    }
-
     /// Whether there are several.
     pub(crate) fn is_many(&self) -> bool {
         self.calls.len() > 1

@@ -18,10 +18,6 @@ pub(crate) struct Known<A: Allocator> {
     pub(crate) unreadable: Vec<u64, A>,
     /// The requests whose replies are to come.
     pub(crate) sent: Vec<u64, A>,
-    /// Those of them that list a directory.
-    listings: Vec<u64, A>,
-    /// Whether RELEASEDIR was sent behind the last reply that was taken. Its own comes before that of the next request.
-    pub(crate) is_releasing: bool,
     /// The nodes that the kernel counted when they were shown last.
     pub(crate) nodes: Vec<u64, A>,
     /// The calls since nothing was under way.
@@ -61,8 +57,6 @@ impl<A: Allocator + Copy> Known<A> {
             unwritable: Vec::new(alloc),
             unreadable: Vec::new(alloc),
             sent: Vec::new(alloc),
-            listings: Vec::new(alloc),
-            is_releasing: false,
             nodes: Vec::new(alloc),
             group: Group::new(alloc),
             line: Vec::new(alloc),
@@ -108,10 +102,7 @@ impl<A: Allocator + Copy> Known<A> {
     fn sent(&mut self, unique: u64, name: &[u8]) -> Result<(), NoLine> {
         match name {
             b"FORGET" | b"BATCH_FORGET" | b"INTERRUPT" => return Ok(()),
-            b"READDIR" | b"READDIRPLUS" => {
-                self.listing = unique;
-                keep(&mut self.listings, unique)?;
-            }
+            b"READDIR" | b"READDIRPLUS" => self.listing = unique,
             _ => {}
         }
         keep(&mut self.sent, unique)
@@ -120,7 +111,6 @@ impl<A: Allocator + Copy> Known<A> {
     /// A reply was taken.
     fn written(&mut self, unique: u64) {
         let _waited = take_out(&mut self.sent, unique);
-        self.is_releasing = take_out(&mut self.listings, unique);
     }
 
     /// The nodes were shown.
