@@ -20,7 +20,8 @@ use clap::builder::ValueParser;
 use clap::{Arg, ArgMatches, Command};
 use fuse_device::{Device, PacketDevice, StreamDevice};
 use fw_drive::{
-    DriveTrace, Form, FreeFields, InputLines, Task, read_drive_script, run_drive, run_source,
+    DriveTrace, Form, FreeFields, InputLines, Task, judge_script, read_script, run_drive,
+    run_source,
 };
 use fw_json::JsonLines;
 use fw_judged::JudgedServer;
@@ -30,7 +31,7 @@ use fw_script::no_memory;
 use std::alloc::{AllocError, Global};
 use std::fs::File;
 use std::io;
-use std::io::{BufReader, BufWriter, ErrorKind, Write};
+use std::io::{BufReader, BufWriter, ErrorKind, Read, Write};
 use std::os::fd::AsRawFd;
 
 /// FUSE_DONT_MASK (linux/fuse.h), which is always offered.
@@ -191,11 +192,7 @@ pub fn drive_command<'a>(alloc: Global) -> Result<Command<'a>, AllocError>
             "trace",
             "Print each frame in words, on standard error",
         ))?
-        .arg(flag(
-            alloc,
-            "json",
-            "Print a JSON object for each line",
-        ))?
+        .arg(flag(alloc, "json", "Print a JSON object for each line"))?
         .arg(wait)?
         .arg(offer_argument(alloc))?;
     with_places(alloc, with_draws(alloc, with_findings(alloc, command)?)?)
@@ -516,6 +513,25 @@ fn drive_place(
     }
 }
 
+/// The bytes of a script, whose lines are good; or the exit status, once it is said why it is not run.
+fn good_script<R: Read, F: Write>(
+    alloc: Global,
+    task: Task<'_>,
+    input: &mut R,
+    faults: &mut F,
+) -> Result<Vec<u8>, u8>
+    ensures { IfErr result (Contains (1 ∷ 3 ∷ [])) }
+{
+    let text = match read_script(alloc, task, input, faults) {
+        Ok(text) => text,
+        Err(status) => return Err(status),
+    };
+    match judge_script(task, text.as_slice(), faults) {
+        Ok(()) => Ok(text),
+        Err(status) => Err(status),
+    }
+}
+
 /// The bytes of the script, whose lines are good, before anything is connected; or the exit status, once it is said why
 /// it is not run.
 fn script_of(rt: &HostRuntime, task: Task<'_>) -> Result<Vec<u8>, u8>
@@ -523,7 +539,7 @@ fn script_of(rt: &HostRuntime, task: Task<'_>) -> Result<Vec<u8>, u8>
 {
     let mut faults = rt.stderr();
     match File::open(rt, task.name) {
-        Ok(mut input) => read_drive_script(rt.alloc(), task, &mut input, &mut faults),
+        Ok(mut input) => good_script(rt.alloc(), task, &mut input, &mut faults),
         Err(error) if error.kind() == ErrorKind::OutOfMemory => Err(no_memory(&mut faults)),
         Err(error) => Err(cannot_open(rt, task.name, &error)),
     }

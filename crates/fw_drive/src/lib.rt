@@ -29,7 +29,7 @@ mod watch;
 pub use fk_drive::FreeFields;
 pub use form::Form;
 pub use input::InputLines;
-pub use run::{Task, read_drive_script, run_drive};
+pub use run::{Task, judge_script, read_script, run_drive};
 pub use source::{LineSource, NoLine, Standing};
 pub use sourced::run_source;
 pub use trace::DriveTrace;

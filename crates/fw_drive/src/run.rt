@@ -1,6 +1,6 @@
 //! The run of a script that drives a server.
 
-ghost use Rattle.std.specs.Prelude.{◌≡◌, ◌⊎◌, ◌++◌, ◌∷◌, [], ℕ, Contains, IfErr, IfOk, IfSome, OnOk, codes, false};
+ghost use Rattle.std.specs.Prelude.{◌≡◌, ◌⊎◌, ◌++◌, ◌∷◌, [], ℕ, Contains, IfErr, IfOk, IfSome, OnErr, OnOk, codes, false};
 ghost use Rattle.fk_drive.specs.Driving.{Driven, DrivesOver, first_driven};
 ghost use Rattle.fw_script.specs.Outputs.{AppendsSome};
 ghost use Rattle.fw_script.specs.Stops.{unreadable};
@@ -90,8 +90,12 @@ fn run_good<T: Tables, D: Device, W: Write>(
     (ended, is_wrong)
 }
 
-/// The bytes of a script, or the exit status once it is said why they cannot be read.
-fn read_script<A: Allocator, R: Read, F: Write>(
+/// The bytes of a script, to be judged and run.
+///
+/// # Errors
+///
+/// The exit status: 1 after `cannot read` with the script's name, on `faults`; or 3 after `no memory`.
+pub fn read_script<A: Allocator, R: Read, F: Write>(
     alloc: A,
     task: Task<'_>,
     input: &mut R,
@@ -113,34 +117,19 @@ fn read_script<A: Allocator, R: Read, F: Write>(
     }
 }
 
-/// The bytes of a script whose lines are good, to be run by `run_drive`. So a bad script is refused before a server is
-/// looked for.
+/// Judges the lines of a script that is to be run by `run_drive`. So a bad script is refused before a server is looked for.
 ///
 /// # Errors
 ///
-/// The exit status: 1 after `cannot read` with the script's name, or `line N:` and the fault of the first bad line, on
-/// `faults`; or 3 after `no memory`.
-pub fn read_drive_script<A: Allocator, R: Read, F: Write>(
-    alloc: A,
-    task: Task<'_>,
-    input: &mut R,
-    faults: &mut F,
-) -> Result<Vec<u8, A>, u8>
-    ensures same { IfOk result (λ script. IfSome (R.remaining input.old) (λ bytes. script.items ≡ bytes)) }
-    ensures good { IfOk result (λ script. IsGoodDriveScript task.entry.form script.items) }
+/// The exit status 1 after `line N:` and the fault of the first bad line, on `faults`.
+pub fn judge_script<F: Write>(task: Task<'_>, script: &[u8], faults: &mut F) -> Result<(), u8>
+    ensures good { OnOk result (IsGoodDriveScript task.entry.form script.now) }
     ensures silent { OnOk result (faults.new ≡ faults.old) }
-    ensures statuses { IfErr result (Contains (1 ∷ 3 ∷ [])) }
-    ensures fault { IfErr result (λ status. status ≡ 1 → IsUnrun task.entry.form task.entry.name.now
-        (R.remaining input.old) (F.contents faults.old) (F.contents faults.new)) }
-    ensures no_memory { IfErr result (λ status. status ≡ 3 → AppendsSome (F.contents faults.old)
-        (F.contents faults.new) (codes "no memory\n")) }
+    ensures status { IfErr result (λ status. status ≡ 1) }
+    ensures fault { OnErr result (SaysFirstFault task.entry.form script.now (F.contents faults.old) (F.contents faults.new)) }
 {
-    let text = match read_script(alloc, task, input, faults) {
-        Ok(text) => text,
-        Err(status) => return Err(status),
-    };
-    match first_fault(task.form, text.as_slice()) {
-        None => Ok(text),
+    match first_fault(task.form, script) {
+        None => Ok(()),
         Some((number, fault)) => Err(bad_line(number, fault, faults)),
     }
 }
