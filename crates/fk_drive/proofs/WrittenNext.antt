@@ -1,5 +1,5 @@
 -- What writing a frame to the kernel results in.
-use Rattle.std.proofs.Common.{◌≡◌, ℕ, Bool, List, [], ◌∷◌, ◌++◌, Option, Some, None, length, map, refl, sym, ap, subst, ◌∙◌, arith}
+use Rattle.std.proofs.Common.{◌≡◌, ℕ, Bool, List, [], ◌∷◌, ◌++◌, Option, None, length, map, refl, sym, ap, subst, ◌∙◌, arith}
 use Rattle.std.specs.Prelude.{Result, Ok, Err}
 use Rattle.std.specs.Result.{result_err}
 use Rattle.fuse_spec.specs.declared.Opened.{Opened}
@@ -119,7 +119,7 @@ pub over_next : {A D : Type 0} (logs : D → D → List Transfer → Type 0) (d 
     (r : Result (Result (Written A) Refusal) DriveEnd) (old : Driven) (new : Turn → Driven)
     → (turn : Turn) × (log : List Transfer) × logs d e log × WritesNext r old log (new turn)
     → (turn : Turn) × DrivesOver logs d e old (new turn)
-over_next logs d e r old new (turn, log, over, is) = (turn, log, over, next_drives r old log (new turn) is)
+over_next logs d e r old new (turn, log, over, is) = (turn, (log, over, next_drives r old log (new turn) is))
 
 -- a list with no element
 pub no_items : {X Y : Type 0} (f : X → Y) (xs : List X) → length xs ≡ 0 → map f xs ≡ []

@@ -20,7 +20,7 @@ loop-frame-preserved g c = (
   λ kernel. went_on g.D.Device.logs g.met.D.Device.goes_on ReleaseStep (Ends None) (ends_on None)
       c.args.device.now c.loop-frame.device c.receive_released.new.device (driven kernel c.args.connection.now (releasing c.args.own))
       (driven kernel c.loop-frame.connection (releasing c.args.own)) (driven kernel c.receive_released.new.connection (releasing c.args.own))
-      (c.loop-frame.invariant.0 kernel) (rw c.in-Ok-false.field-0-is at c.in-Ok-false.ensures.awaits kernel),
+      (c.loop-frame.invariant.0 kernel) (rw c.in-Ok-false.field-0-test at c.in-Ok-false.ensures.awaits kernel),
   noted_on g.N.Notes.notes g.met.N.Notes.goes_on c.args.notes.now c.loop-frame.notes c.receive_released.new.notes c.args.out.now c.loop-frame.out c.receive_released.new.out
       c.loop-frame.invariant.1 c.in-Ok-false.ensures.noted,
 )
@@ -30,7 +30,7 @@ returns-in-Ok-true-clause-awaits g c kernel =
     went_on g.D.Device.logs g.met.D.Device.goes_on ReleaseStep (Ends None) (ends_on None)
     c.args.device.now c.loop-frame.device c.receive_released.new.device (driven kernel c.args.connection.now (releasing c.args.own))
     (driven kernel c.loop-frame.connection (releasing c.args.own)) (driven kernel c.receive_released.new.connection idle)
-    (c.loop-frame.invariant.0 kernel) (rw c.in-Ok-true.field-0-is at c.in-Ok-true.ensures.awaits kernel)
+    (c.loop-frame.invariant.0 kernel) (rw c.in-Ok-true.field-0-test at c.in-Ok-true.ensures.awaits kernel)
 
 pub returns-in-Err-clause-awaits : goal.returns-in-Err-clause-awaits
 returns-in-Err-clause-awaits g c kernel =

@@ -1,4 +1,3 @@
-use Rattle.std.proofs.Common.{◌≡◌, true, true≢false, sym}
 use Rattle.fk_wire.specs.Opcodes.{latest_minor}
 use Rattle.fk_wire.specs.declared.opcode.Opcode.TheVariants as op
 use Rattle.fk_kernel.proofs.Heads.{no_head}

@@ -1,4 +1,4 @@
-use Rattle.std.proofs.Common.{[], refl}
+use Rattle.std.proofs.Common.{[]}
 use Rattle.fk_drive.proofs.Released.{releases_awaiting, releases_failed, releases_no}
 use Rattle.fk_drive.proofs.releasing.release.Goals as goal
 

@@ -1,8 +1,7 @@
 use Rattle.std.proofs.Common.{◌≡◌, ℕ, List, [], Some, None, refl, subst, sym, arith}
 use Rattle.std.specs.Prelude.{◌==◌, position}
-use Rattle.fuse_device.specs.Transfers.{Transfer}
 use Rattle.fk_drive.specs.Driven.{directories_in}
-use Rattle.fk_drive.specs.Driving.{ReleasesBehind, Turn, releases_none, releasing}
+use Rattle.fk_drive.specs.Driving.{ReleasesBehind, releases_none, releasing}
 use Rattle.fk_drive.specs.declared.connection.Directory.{Directory}
 use Rattle.fk_drive.proofs.Changes.{keeps_waiting, released, releases_at, releases_nothing}
 use Rattle.fk_drive.proofs.releasing.release_directory.Goals as goal

@@ -4,6 +4,7 @@ use Rattle.std.proofs.lemmas.Result.{err_from_is_err_and}
 use Rattle.fk_drive.specs.Driven.{driven}
 use Rattle.fk_drive.specs.Driving.{idle}
 use Rattle.fk_drive.specs.Releasing.{Releases}
+use Rattle.fk_drive.proofs.Noting.{noted_on}
 use Rattle.fk_drive.proofs.WrittenNext.{none_next, over_next, refused_next, wrote}
 use Rattle.fk_drive.proofs.writing.write_next.Goals as goal
 
@@ -50,3 +51,8 @@ returns-in_err-receive_one-clause-drives g c =
     over_next {A = g.row.Q-Heap.Denot} g.D.Device.logs c.args.device.now c.receive_one.new.device
     c.from_residual.result (driven c.args.kernel.now c.args.connection.now idle)
     (λ turn. driven c.args.kernel.now c.receive_one.new.connection turn) (returns-in_err-receive_one-clause-writes g c)
+
+pub returns-in-Ok-clause-noted : goal.returns-in-Ok-clause-noted
+returns-in-Ok-clause-noted g c =
+    noted_on g.N.Notes.notes g.met.N.Notes.goes_on c.args.notes.now c.receive_one.new.notes c.release.new.notes
+    c.args.out.now c.receive_one.new.out c.release.new.out c.in_ok-receive_one.ensures.noted c.release.ensures.noted
