@@ -1,0 +1,4 @@
+pub mod Alike
+pub mod Givens
+pub mod Joining
+pub mod PlainTexts

@@ -1,0 +1,4 @@
+pub mod CallNames
+pub mod Given
+pub mod Naming
+pub mod PlainScripts
