@@ -8,8 +8,9 @@ SOCK; or it has /dev/fd/N in the place of the word MOUNT, by examples/drive/laun
 
 A fault is a line in which `drive` says what the server did wrong, or the judge of sessions does, without its numbers. Where
 there is none, it is the first answer that `fuseworld serve` gives otherwise at the same script, as `--random` compares answers;
-and where all are alike, what the judge warns of. The first fault of the whole script is kept, or the one that -f names, as "no reply". SCRIPT.short is the script that is left, with what
-`drive` prints of it as comments; SCRIPT.short.capture what went over the device, and SCRIPT.short.svg a picture of it.
+and where all are alike, what the judge warns of. The first fault of the whole script is kept, or the one that -f names, as
+"no reply". SCRIPT.short is the script that is left, whose calls have names where others name them, with what `drive` prints of
+it as comments; SCRIPT.short.capture what went over the device, and SCRIPT.short.svg a picture of it.
 """
 import argparse
 import os
@@ -45,25 +46,40 @@ def parsed():
     return asked
 
 
-def renumbered(lines, kept):
-    """The lines that are kept, with the numbers that the calls have then; None where a line names a call that is gone."""
-    numbers, calls, result = {}, 0, []
-    for place, line in enumerate(lines):
-        is_kept = place in kept
-        words = line.split(" ")
-        if words[0] == "call":
-            calls += 1
-            if is_kept:
-                numbers[calls] = len(numbers) + 1
-        if not is_kept:
-            continue
-        at = NAMES_CALL.get(words[0], NAMES_CALL.get(" ".join(words[:2])))
-        if at is not None and len(words) > at and words[at].isdigit():
-            if int(words[at]) not in numbers:
-                return None
-            words[at] = str(numbers[int(words[at])])
-        result.append(" ".join(words))
-    return result
+def place_of_call(words):
+    """Which word of a line names another call, if one does."""
+    at = NAMES_CALL.get(words[0], NAMES_CALL.get(" ".join(words[:2])))
+    return at if at is not None and at < len(words) else None
+
+
+def name_in(words):
+    """The name that a line gives its call, or None."""
+    return words[-1] if words[0] == "call" and len(words) > 4 and words[-2] == "as" else None
+
+
+def named(lines):
+    """The lines with names for the calls that others name by their numbers, so that a line can go alone."""
+    result = [line.split(" ") for line in lines]
+    calls = [words for words in result if words[0] == "call"]
+    for words in result:
+        at = place_of_call(words)
+        if at is not None and words[at].isdigit() and 0 < int(words[at]) <= len(calls):
+            call = calls[int(words[at]) - 1]
+            if name_in(call) is None:
+                call += ["as", f"C{words[at]}"]
+            words[at] = name_in(call)
+    return [" ".join(words) for words in result]
+
+
+def is_whole(lines):
+    """Whether each name in the lines is that of a call before."""
+    names = set()
+    for words in (line.split(" ") for line in lines):
+        at = place_of_call(words)
+        if at is not None and words[at][:1].isalpha() and words[at] not in names:
+            return False
+        names.add(name_in(words))
+    return True
 
 
 def over_socket(asked, drive, folder):
@@ -174,7 +190,7 @@ def shrunk(lines, is_wrong):
 
 def main():
     asked = parsed()
-    lines = [line for line in asked.script.read_text().splitlines() if line and not line.startswith("#")]
+    lines = named([line for line in asked.script.read_text().splitlines() if line and not line.startswith("#")])
     for asked.is_beside, asked.is_odd in ((False, False), (True, False), (False, True)):
         said = [line for line in tried(asked, lines).splitlines() if fault_in(line, asked)]
         if said:
@@ -186,13 +202,13 @@ def main():
 
     def is_wrong(kept):
         nonlocal tries
-        script = renumbered(lines, set(kept))
-        if script is None:
+        script = [lines[place] for place in kept]
+        if not is_whole(script):
             return False
         tries += 1
         return any(fault_in(line, asked) == fault for line in tried(asked, script).splitlines())
 
-    script = renumbered(lines, set(shrunk(lines, is_wrong)))
+    script = [lines[place] for place in shrunk(lines, is_wrong)]
     short = Path(f"{asked.script}.short")
     capture = Path(f"{short}.capture")
     words = tried(asked, script, capture)

@@ -19,6 +19,7 @@ use crate::values::{is_set, number, text, text_or_none};
 use clap::builder::ValueParser;
 use clap::{Arg, ArgMatches, Command};
 use fuse_device::{Device, PacketDevice, StreamDevice};
+use fw_call_names::{NamedLines, plain_script};
 use fw_drive::{
     DriveTrace, Form, FreeFields, InputLines, Task, judge_script, read_script, run_drive,
     run_source,
@@ -31,7 +32,7 @@ use fw_script::no_memory;
 use std::alloc::{AllocError, Global};
 use std::fs::File;
 use std::io;
-use std::io::{BufReader, BufWriter, ErrorKind, Read, Write};
+use std::io::{BufRead, BufReader, BufWriter, ErrorKind, Read, Write};
 use std::os::fd::AsRawFd;
 
 /// FUSE_DONT_MASK (linux/fuse.h), which is always offered.
@@ -277,6 +278,8 @@ fn hex_number(text: &[u8]) -> u32 {
 enum Lines<'a> {
     /// A script whose lines are good.
     Script(&'a [u8]),
+    /// The same of a script in which calls have names.
+    Named(&'a [u8]),
     /// Standard input, a line at a time.
     Input,
     /// What a seed chooses.
@@ -287,7 +290,23 @@ enum Lines<'a> {
     },
 }
 
-/// Runs the lines of standard input on a device, each once the one before was run, and gives the exit status.
+/// Runs lines in which calls may have names on a device, each once the one before was run, and gives the exit status.
+fn drive_named<D: Device, R: BufRead + Drop, W: Write, F: Write>(
+    rt: &HostRuntime,
+    task: Task<'_>,
+    device: &mut D,
+    input: R,
+    out: &mut W,
+    faults: &mut F,
+) -> u8
+    ensures { Contains drive_statuses result }
+{
+    let alloc = rt.alloc();
+    let mut lines = NamedLines::new(alloc, InputLines::new(input));
+    run_source(alloc, task, device, &mut lines, out, faults)
+}
+
+/// Runs the lines of standard input on a device, and gives the exit status.
 fn drive_input<D: Device, W: Write, F: Write>(
     rt: &HostRuntime,
     task: Task<'_>,
@@ -297,12 +316,10 @@ fn drive_input<D: Device, W: Write, F: Write>(
 ) -> u8
     ensures { Contains drive_statuses result }
 {
-    let alloc = rt.alloc();
-    let Ok(input) = BufReader::new(alloc, rt.reader()) else {
-        return no_memory(faults);
-    };
-    let mut lines = InputLines::new(input);
-    run_source(alloc, task, device, &mut lines, out, faults)
+    match BufReader::new(rt.alloc(), rt.reader()) {
+        Ok(input) => drive_named(rt, task, device, input, out, faults),
+        Err(_) => no_memory(faults),
+    }
 }
 
 /// Runs lines that a seed chooses on a device, with all else that is printed as comments, and gives the exit status. Notes
@@ -352,6 +369,7 @@ fn drive_device<D: Device, W: Write + Drop>(
             let mut input = script;
             run_drive(alloc, task, device, &mut input, &mut out, &mut faults)
         }
+        Lines::Named(script) => drive_named(rt, task, device, script, &mut out, &mut faults),
         Lines::Input => drive_input(rt, task, device, &mut out, &mut faults),
         Lines::Random {
             seed,
@@ -513,28 +531,57 @@ fn drive_place(
     }
 }
 
-/// The bytes of a script, whose lines are good; or the exit status, once it is said why it is not run.
+/// A script whose lines are good.
+#[derive(Drop)]
+struct GoodScript {
+    text: Vec<u8>,
+    /// Whether calls have names in it.
+    has_names: bool,
+}
+
+/// A script, once its lines were judged: by those of the plain script where calls have names in it.
+fn judged<F: Write>(
+    task: Task<'_>,
+    text: Vec<u8>,
+    plain: Option<Vec<u8>>,
+    faults: &mut F,
+) -> Result<GoodScript, u8>
+    ensures { IfErr result (Contains (1 ∷ 3 ∷ [])) }
+{
+    let lines = match &plain {
+        Some(plain) => plain.as_slice(),
+        None => text.as_slice(),
+    };
+    match judge_script(task, lines, faults) {
+        Ok(()) => Ok(GoodScript {
+            text,
+            has_names: plain.is_some(),
+        }),
+        Err(status) => Err(status),
+    }
+}
+
+/// A script whose lines are good; or the exit status, once it is said why it is not run.
 fn good_script<R: Read, F: Write>(
     alloc: Global,
     task: Task<'_>,
     input: &mut R,
     faults: &mut F,
-) -> Result<Vec<u8>, u8>
+) -> Result<GoodScript, u8>
     ensures { IfErr result (Contains (1 ∷ 3 ∷ [])) }
 {
     let text = match read_script(alloc, task, input, faults) {
         Ok(text) => text,
         Err(status) => return Err(status),
     };
-    match judge_script(task, text.as_slice(), faults) {
-        Ok(()) => Ok(text),
-        Err(status) => Err(status),
+    match plain_script(alloc, text.as_slice()) {
+        Ok(plain) => judged(task, text, plain, faults),
+        Err(_) => Err(no_memory(faults)),
     }
 }
 
-/// The bytes of the script, whose lines are good, before anything is connected; or the exit status, once it is said why
-/// it is not run.
-fn script_of(rt: &HostRuntime, task: Task<'_>) -> Result<Vec<u8>, u8>
+/// The script, whose lines are good, before anything is connected; or the exit status, once it is said why it is not run.
+fn script_of(rt: &HostRuntime, task: Task<'_>) -> Result<GoodScript, u8>
     ensures { IfErr result (Contains (1 ∷ 3 ∷ [])) }
 {
     let mut faults = rt.stderr();
@@ -588,7 +635,10 @@ fn drive_task_of(rt: &HostRuntime, asked: DriveTask<'_>, task: Task<'_>) -> u8
         return drive_lines(rt, asked, task, Lines::Input);
     }
     match script_of(rt, task) {
-        Ok(script) => drive_lines(rt, asked, task, Lines::Script(script.as_slice())),
+        Ok(script) if script.has_names => {
+            drive_lines(rt, asked, task, Lines::Named(script.text.as_slice()))
+        }
+        Ok(script) => drive_lines(rt, asked, task, Lines::Script(script.text.as_slice())),
         Err(status) => status,
     }
 }
