@@ -104,8 +104,8 @@ module _ (IsGood : Request → Type 0) (IsSuch : List ℕ → Type 0) (Fine : Ke
   step_right old log new (sets_aside frame other) fine even right = (tt, right)
   step_right old log new (writes idles frame rest there handed on result k taken log' coming directories turn release) fine
       even right =
-      let (sends, none) = released_sent frame old.next even old.directories log coming directories turn release in
-      (sends, none_right turn none)
+      let both = released_sent frame old.next even old.directories log coming directories turn release in
+      (both.0, none_right turn both.1)
   step_right old log new (is_released unique turn frame head same) fine even right = (tt, none_right new.turn refl)
   step_right old log new (ends end) fine even right = (tt, right)
 
