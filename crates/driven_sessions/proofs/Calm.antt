@@ -37,7 +37,11 @@ use Rattle.fuse_sessions.specs.Warnings.{is_missing, is_of_node, is_offset, last
 abbrev pub is_of_numbers : Fault → Bool
 is_of_numbers fault.OddNumber = true
 is_of_numbers fault.NumberUsedTwice = true
+is_of_numbers fault.NumberOutOfOrder = true
+is_of_numbers fault.ResendOfNothing = true
+is_of_numbers fault.InterruptOfNothing = true
 is_of_numbers fault.InterruptUnderAnotherNumber = true
+is_of_numbers fault.InterruptTooOften = true
 is_of_numbers fault.ForgetOfTheRoot = true
 is_of_numbers fault.ForgetOfNoLookup = true
 is_of_numbers f = false

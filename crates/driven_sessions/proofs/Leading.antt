@@ -13,7 +13,7 @@ use Rattle.fuse_sessions.specs.declared.transfer.Transfer.{Transfer as Said}
 use Rattle.fuse_sessions.specs.Sessions.{Session}
 use Rattle.fuse_sessions.specs.Faults.{Breaks, HasFaultAt}
 use Rattle.fuse_sessions.specs.Frames.{Lead}
-use Rattle.fuse_sessions.specs.Numbers.{reads, was_read}
+use Rattle.fuse_sessions.specs.Numbers.{has_several_readers, is_of_several, reads, was_read}
 use Rattle.driven_sessions.specs.Transfers.{AreSaid}
 use Rattle.driven_sessions.proofs.Calm.{AreCalm, calm_law, is_calm, is_of_numbers}
 
@@ -106,6 +106,15 @@ one_read u n o s before after quiet_before quiet_after is = by (was_read s u) (n
 
 pub calm_none : (u : ℕ) (acts : List Act) → AreCalm acts → list_any (reads u) acts ≡ false
 calm_none = calm_any
+
+-- ---- several threads read
+
+abbrev pub HasSeveral : Session → Type 0
+HasSeveral s = has_several_readers s ≡ true
+
+pub several_append : (s acts : List Act) → HasSeveral s → HasSeveral (s ++ acts)
+several_append s acts several =
+    list_any-append is_of_several s acts ∙ ap (λ b. b || list_any is_of_several acts) several
 
 -- ---- sessions in parts
 

@@ -16,3 +16,6 @@ mod Forgotten
 mod Shapes
 mod Malformed
 mod Odd
+mod Plain
+mod Several
+mod Low

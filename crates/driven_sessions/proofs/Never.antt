@@ -219,7 +219,7 @@ module _ (mounts : ℕ) (new : Driven) (k : Known) (s : Session) (free : AreFree
 
 -- ---- a run
 
-has_numbers : (asks : Bool) (log : List Transfer) (new : Driven) (run : Drives (first_driven asks) log new) → HasNumbers run
+pub has_numbers : (asks : Bool) (log : List Transfer) (new : Driven) (run : Drives (first_driven asks) log new) → HasNumbers run
     → new.kernel.queues.next ≤ 2 ^ 62
 has_numbers asks log new none_yet few = omega arith
 has_numbers asks log new (next before mid run last end step) few = few.1

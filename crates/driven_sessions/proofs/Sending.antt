@@ -44,6 +44,18 @@ pub run_even : (asks : Bool) (log : List Transfer) (new : Driven) → Drives (fi
 run_even asks log new nothing = refl
 run_even asks log new (behind before mid run last end step) = step_even mid last end step (run_even asks before mid run)
 
+-- The kernel was such before each step of a run.
+abbrev pub Were : (Kernel → Type 0) → {old : Driven} {log : List Transfer} {new : Driven} → Drives old log new → Type 0
+Were Fine nothing = Unit {0}
+Were Fine (behind before mid run last end step) = Were Fine run × Fine mid.kernel
+
+were_always : (Fine : Kernel → Type 0) (asks : Bool)
+    → ((log : List Transfer) (new : Driven) → Drives (first_driven asks) log new → Fine new.kernel)
+    → (log : List Transfer) (new : Driven) (run : Drives (first_driven asks) log new) → Were Fine run
+were_always Fine asks fine log new nothing = tt
+were_always Fine asks fine log new (behind before mid run last end step) =
+    (were_always Fine asks fine before mid run, fine before mid run)
+
 -- What is held is such, and what is sent, if what is picked is, and what is not the kernel's.
 module _ (IsGood : Request → Type 0) (IsSuch : List ℕ → Type 0) (Fine : Kernel → Type 0)
     (good : (k : Kernel) (pick : Pick) (r : Request) → Fine k → IsPicked k pick r → IsGood r)
@@ -109,15 +121,19 @@ module _ (IsGood : Request → Type 0) (IsSuch : List ℕ → Type 0) (Fine : Ke
   step_right old log new (is_released unique turn frame head same) fine even right = (tt, none_right new.turn refl)
   step_right old log new (ends end) fine even right = (tt, right)
 
-  module _ (asks : Bool)
-      (fine : (log : List Transfer) (new : Driven) → Drives (first_driven asks) log new → Fine new.kernel) where
-    pub run_sends : (log : List Transfer) (new : Driven) → Drives (first_driven asks) log new
+  module _ (asks : Bool) where
+    pub run_sends_where : (log : List Transfer) (new : Driven) (run : Drives (first_driven asks) log new) → Were Fine run
         → AllSent IsSuch log × HeldGood new.turn
-    run_sends log new nothing = (tt, none_right new.turn refl)
-    run_sends log new (behind before mid run last end step) =
-        let was = run_sends before mid run in
-        let now = step_right mid last end step (fine before mid run) (run_even asks before mid run) was.1 in
+    run_sends_where log new nothing were = (tt, none_right new.turn refl)
+    run_sends_where log new (behind before mid run last end step) were =
+        let was = run_sends_where before mid run were.0 in
+        let now = step_right mid last end step were.1 (run_even asks before mid run) was.1 in
         (all_append IsSuch before last was.0 now.0, now.1)
+
+    pub run_sends : ((log : List Transfer) (new : Driven) → Drives (first_driven asks) log new → Fine new.kernel)
+        → (log : List Transfer) (new : Driven) → Drives (first_driven asks) log new
+        → AllSent IsSuch log × HeldGood new.turn
+    run_sends fine log new run = run_sends_where log new run (were_always Fine asks fine log new run)
 
 -- ---- INTERRUPTs
 

@@ -30,7 +30,7 @@ use Rattle.driven_sessions.specs.Groups.{is_of_interrupt_numbers}
 use Rattle.driven_sessions.specs.Transfers.{AllSent, AreSaid}
 use Rattle.driven_sessions.proofs.Calm.{is_of_numbers}
 use Rattle.driven_sessions.proofs.Doing.{Does, comes_again, forgets_many, forgets_one, interrupts, nothing, reads, request_does}
-use Rattle.driven_sessions.proofs.Leading.{AreFree, calm_free, free_append, never_at}
+use Rattle.driven_sessions.proofs.Leading.{AreFree, HasSeveral, calm_free, free_append, never_at, several_append}
 use Rattle.driven_sessions.proofs.Never.{by_judged, ended_calm, written_is_calm}
 use Rattle.driven_sessions.proofs.Sending.{IsInterruptRight, run_right}
 
@@ -63,42 +63,53 @@ interrupted_at agreed bytes m is =
 
 -- ---- a group that needs no more than the frame
 
--- Each frame that is such shows none of the group.
+-- Each frame that is such shows none of the group, where several threads read.
+abbrev pub ShowsNoneAmong : (group : Fault → Bool) → (List ℕ → Type 0) → Type 0
+ShowsNoneAmong group IsSuch = (agreed : Agreed) (frame : List ℕ) (s : Session) (acts : List Act) → HasSeveral s
+    → IsSuch frame → Does agreed frame acts → AreFree group s acts
+
+-- Wherever it is read.
 abbrev pub ShowsNoneBy : (group : Fault → Bool) → (List ℕ → Type 0) → Type 0
 ShowsNoneBy group IsSuch = (agreed : Agreed) (frame : List ℕ) (s : Session) (acts : List Act) → IsSuch frame
     → Does agreed frame acts → AreFree group s acts
 
 module _ (group : Fault → Bool) (within : (f : Fault) → group f ≡ true → is_of_numbers f ≡ true)
-    (IsSuch : List ℕ → Type 0) (shows : ShowsNoneBy group IsSuch) where
-  request_free : (k : Known) (s : Session) (b : Bor (List ℕ)) (acts : List Act) (later : Known) → IsSuch b.now
-      → AreActs k s (said.Request b) acts later → AreFree group s acts
-  request_free k s b acts later such is = by_judged (AreFree group s acts) k.unjudged
-      (AreReadActs k s (said.Request b) acts later) (λ why. (acts ≡ []) × (later ≡ k))
-      (λ judged does. shows k.agreed b.now s acts such (request_does k b.now acts does.0))
-      (λ why unjudged none. subst (AreFree group s) (sym none.0) tt) is
+    (IsSuch : List ℕ → Type 0) where
+  module _ (shows : ShowsNoneAmong group IsSuch) where
+    request_free : (k : Known) (s : Session) (b : Bor (List ℕ)) (acts : List Act) (later : Known) → HasSeveral s
+        → IsSuch b.now → AreActs k s (said.Request b) acts later → AreFree group s acts
+    request_free k s b acts later several such is = by_judged (AreFree group s acts) k.unjudged
+        (AreReadActs k s (said.Request b) acts later) (λ why. (acts ≡ []) × (later ≡ k))
+        (λ judged does. shows k.agreed b.now s acts several such (request_does k b.now acts does.0))
+        (λ why unjudged none. subst (AreFree group s) (sym none.0) tt) is
 
-  session_free : (log : List Transfer) → AllSent IsSuch log → (ts : List Said) → AreSaid log ts → (k : Known) (s : Session)
-      → AreFree group [] s → (later : Known) (all : Session) → Lead k s ts later all → AreFree group [] all
-  session_free [] such [] is k s free later all leads = subst (AreFree group []) (sym leads.1) free
-  session_free (sent frame result ∷ log) such (said.Request b ∷ ts) is k s free later all (acts, known, are, leads) =
-      session_free log such.1 ts is.1 known (s ++ acts)
-      (free_append group [] s acts free (request_free k s b acts known (subst IsSuch (sym is.0) such.0) are)) later all leads
-  session_free (received frame ∷ log) such (said.Written b t ∷ ts) is k s free later all (acts, known, are, leads) =
-      session_free log such ts is.1 known (s ++ acts)
-      (free_append group [] s acts free (calm_free group within s acts (written_is_calm k s b t acts known are))) later all leads
-  session_free (unsent frame end ∷ log) such (said.Ended ∷ ts) is k s free later all (acts, known, are, leads) =
-      session_free log such ts is.1 known (s ++ acts)
-      (free_append group [] s acts free (calm_free group within s acts (ended_calm k s acts known are))) later all leads
-  session_free (stopped end ∷ log) such (said.Ended ∷ ts) is k s free later all (acts, known, are, leads) =
-      session_free log such ts is.1 known (s ++ acts)
-      (free_append group [] s acts free (calm_free group within s acts (ended_calm k s acts known are))) later all leads
-  session_free log such ts is k s free later all leads = absurd search
+    session_free : (log : List Transfer) → AllSent IsSuch log → (ts : List Said) → AreSaid log ts → (k : Known)
+        (s : Session) → HasSeveral s → AreFree group [] s → (later : Known) (all : Session) → Lead k s ts later all
+        → AreFree group [] all
+    session_free [] such [] is k s several free later all leads = subst (AreFree group []) (sym leads.1) free
+    session_free (sent frame result ∷ log) such (said.Request b ∷ ts) is k s several free later all (acts, known, are, leads) =
+        session_free log such.1 ts is.1 known (s ++ acts) (several_append s acts several) (free_append group [] s acts free
+        (request_free k s b acts known several (subst IsSuch (sym is.0) such.0) are)) later all leads
+    session_free (received frame ∷ log) such (said.Written b t ∷ ts) is k s several free later all (acts, known, are, leads) =
+        session_free log such ts is.1 known (s ++ acts) (several_append s acts several) (free_append group [] s acts free
+        (calm_free group within s acts (written_is_calm k s b t acts known are))) later all leads
+    session_free (unsent frame end ∷ log) such (said.Ended ∷ ts) is k s several free later all (acts, known, are, leads) =
+        session_free log such ts is.1 known (s ++ acts) (several_append s acts several) (free_append group [] s acts free
+        (calm_free group within s acts (ended_calm k s acts known are))) later all leads
+    session_free (stopped end ∷ log) such (said.Ended ∷ ts) is k s several free later all (acts, known, are, leads) =
+        session_free log such ts is.1 known (s ++ acts) (several_append s acts several) (free_append group [] s acts free
+        (calm_free group within s acts (ended_calm k s acts known are))) later all leads
+    session_free log such ts is k s several free later all leads = absurd search
 
-  pub single_free : (log : List Transfer) → AllSent IsSuch log → IsFreeOf group log
-  single_free log such s (ts, is, k, (acts, known, are, leads)) place f has of =
-      let first : acts ≡ act.SeveralReaders ∷ [] = are.0 in
-      never_at group [] s (session_free log such ts is known acts (subst (AreFree group []) (sym first)
-      (calm_free group within [] (act.SeveralReaders ∷ []) refl)) k s leads) place f has of
+    pub among_free : (log : List Transfer) → AllSent IsSuch log → IsFreeOf group log
+    among_free log such s (ts, is, k, (acts, known, are, leads)) place f has of =
+        let first : acts ≡ act.SeveralReaders ∷ [] = are.0 in
+        never_at group [] s (session_free log such ts is known acts (subst HasSeveral (sym first) refl)
+        (subst (AreFree group []) (sym first) (calm_free group within [] (act.SeveralReaders ∷ []) refl)) k s leads) place f
+        has of
+
+  pub single_free : ShowsNoneBy group IsSuch → (log : List Transfer) → AllSent IsSuch log → IsFreeOf group log
+  single_free shows = among_free (λ agreed frame s acts several. shows agreed frame s acts)
 
 -- ---- INTERRUPTs
 

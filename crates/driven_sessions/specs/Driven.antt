@@ -47,6 +47,11 @@ abbrev pub NeverAccusedInOneMount : (Fault → Bool) → Type 0
 NeverAccusedInOneMount group = (asks : Bool) (log : List Transfer) (new : Driven) (run : Drives (first_driven asks) log new)
     → IsOneMount run → HasNumbers run → IsFreeOf group log
 
+-- The same of a kernel whose numbers are not used up, however often it mounts.
+abbrev pub NeverAccusedWithNumbers : (Fault → Bool) → Type 0
+NeverAccusedWithNumbers group = (asks : Bool) (log : List Transfer) (new : Driven) (run : Drives (first_driven asks) log new)
+    → HasNumbers run → IsFreeOf group log
+
 -- What was agreed on before each of these transfers is such.
 abbrev pub HaveAgreed : (Agreed → Type 0) → (k : Known) (s : Session) (ts : List Said) (later : Known) (all : Session)
     → Lead k s ts later all → Type 0

@@ -28,3 +28,16 @@ is_of_empty_forgets f = false
 abbrev pub is_of_shapes : Fault → Bool
 is_of_shapes fault.MalformedRequest = true
 is_of_shapes f = false
+
+-- It is one where one thread uses the device: a number that does not rise, an INTERRUPT of nothing that waits, or one more
+-- than is asked for.
+abbrev pub is_of_one_thread : Fault → Bool
+is_of_one_thread fault.NumberOutOfOrder = true
+is_of_one_thread fault.InterruptOfNothing = true
+is_of_one_thread fault.InterruptTooOften = true
+is_of_one_thread f = false
+
+-- A request is read once more, and nothing waits under its number.
+abbrev pub is_of_resends : Fault → Bool
+is_of_resends fault.ResendOfNothing = true
+is_of_resends f = false

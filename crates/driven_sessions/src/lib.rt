@@ -9,5 +9,5 @@ mod never_accused;
 
 pub use never_accused::{
     forgets_are_of_lookups, frames_are_requests, interrupts_have_their_numbers, numbers_are_even,
-    numbers_are_used_once, requests_are_whole,
+    numbers_are_used_once, readers_are_several, requests_are_not_resent, requests_are_whole,
 };
