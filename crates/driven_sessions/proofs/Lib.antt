@@ -7,6 +7,7 @@ mod Frames
 mod Spent
 mod Reading
 mod Stepping
+mod Within
 mod Never
 mod Evens
 mod Sending

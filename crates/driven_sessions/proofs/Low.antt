@@ -30,12 +30,12 @@ use Rattle.driven_sessions.specs.Transfers.{AllSent}
 use Rattle.driven_sessions.proofs.Calm.{calm_law, is_of_numbers}
 use Rattle.driven_sessions.proofs.Frames.{IsOwn, frame_interrupt, frame_unique, is_interrupt, own_head}
 use Rattle.driven_sessions.proofs.Leading.{HasSeveral}
-use Rattle.driven_sessions.proofs.Never.{has_numbers}
 use Rattle.driven_sessions.proofs.Numbers.{Each, Entry, Numbered, each_at, moves_numbered, numbered_later, numbered_stable, reading_numbered}
 use Rattle.driven_sessions.proofs.Plain.{does_plain, is_plain, plain_free}
 use Rattle.driven_sessions.proofs.Sending.{Were, run_sends_where}
 use Rattle.driven_sessions.proofs.Single.{ShowsNoneAmong, among_free}
 use Rattle.driven_sessions.proofs.Steps.{WhileLive, alone_keeps, taken_keeps}
+use Rattle.driven_sessions.proofs.Within.{run_within}
 
 -- ---- the kernel's numbers, however often it mounts
 
@@ -99,7 +99,7 @@ module _ (asks : Bool) where
   were_low log new nothing few = tt
   were_low log new (behind before mid run last end step) few = (
     were_low before mid run few.0,
-    is_low mid.kernel (has_numbers asks before mid run few.0) (run_tallied 2 (omega arith) asks before mid run).empty
+    is_low mid.kernel (run_within asks before mid run few.0) (run_tallied 2 (omega arith) asks before mid run).empty
         (run_numbered before mid run),
   )
 

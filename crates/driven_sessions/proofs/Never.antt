@@ -1,5 +1,5 @@
 -- No session of a run shows a fault of the groups.
-use Rattle.std.proofs.Common.{◌≡◌, ◌⊎◌, inl, inr, ℕ, zero, suc, ◌+◌, ◌≤◌, ◌%◌, ◌^◌, Bool, true, false, List, [], ◌∷◌, ◌++◌, Option, Some, None, nat_eq, refl, sym, ◌∙◌, ap, subst, append-nil, arith, rules}
+use Rattle.std.proofs.Common.{◌≡◌, ◌⊎◌, inl, inr, ℕ, zero, suc, ◌+◌, ◌≤◌, ◌%◌, Bool, true, false, List, [], ◌∷◌, ◌++◌, Option, Some, None, nat_eq, refl, sym, ◌∙◌, ap, subst, append-nil, arith, rules}
 use Rattle.std.specs.Prelude.{MatchOption}
 use Rattle.std.specs.Borrow.{Bor}
 use Rattle.std.specs.List.{list_any}
@@ -37,6 +37,7 @@ use Rattle.driven_sessions.proofs.Doing.{Does, comes_again, forgets_many, forget
 use Rattle.driven_sessions.proofs.Leading.{AreFree, calm_free, calm_none, calm_read, free_append, lead_parts, never_at, one_read, quiet_read, said_parts}
 use Rattle.driven_sessions.proofs.Spent.{Adds, Goes, IsNoInterrupt, IsQuiet, Keeps, SentRight, cut_off, ends, keeps_still, nothing, quiet, receives, same_keeps, sends}
 use Rattle.driven_sessions.proofs.Stepping.{mount_goes, step_goes}
+use Rattle.driven_sessions.proofs.Within.{run_within}
 
 -- the faults of numbers that a request's reading may show
 abbrev pub is_of_readings : Fault → Bool
@@ -219,11 +220,6 @@ module _ (mounts : ℕ) (new : Driven) (k : Known) (s : Session) (free : AreFree
 
 -- ---- a run
 
-pub has_numbers : (asks : Bool) (log : List Transfer) (new : Driven) (run : Drives (first_driven asks) log new) → HasNumbers run
-    → new.kernel.queues.next ≤ 2 ^ 62
-has_numbers asks log new none_yet few = omega arith
-has_numbers asks log new (next before mid run last end step) few = few.1
-
 first_keeps : (asks : Bool) (s : Session) → ((u : ℕ) → was_read s u ≡ false) → Keeps 0 (first_driven asks) s
 first_keeps asks s none = record {
   numbered = λ live. absurd (false≢true live);
@@ -248,7 +244,8 @@ module _ (asks : Bool) (k : Known) (s : Session) (free : AreFree is_of_readings 
       let was = run_on before mid run (omega (arith, one)) few.0 parts.first parts.said led.known led.session led.before in
       by led.session all (mounts_at step) refl (λ still. step_goes (mounts_in run) led.session mid last end step still
       (run_tallied 2 (omega arith) asks before mid run).empty (run_one asks before mid run)
-      (has_numbers asks before mid run few.0) few.1 was.keeps) (λ mounts zero. mount_goes led.session mid last end step mounts
+      (run_within asks before mid run few.0) (run_within asks (before ++ last) end (next before mid run last end step) few)
+      was.keeps) (λ mounts zero. mount_goes led.session mid last end step mounts
       (subst (λ (n : ℕ). Keeps n mid led.session) zero was.keeps))
       (λ n goes. goes_on n end led.known led.session was.free last goes parts.last parts.said_more later all led.behind)
     where

@@ -7,7 +7,7 @@ use Rattle.fuse_sessions.specs.declared.act.Act.TheVariants as act
 use Rattle.fuse_sessions.specs.declared.fault.Fault.{Fault}
 use Rattle.fuse_sessions.specs.declared.fault.Fault.TheVariants as fault
 use Rattle.fuse_sessions.specs.Faults.{Breaks, BreaksForget, BreaksInterrupt, BreaksNumber, BreaksResent}
-use Rattle.fuse_sessions.specs.Numbers.{has_several_readers, has_several_threads, has_several_writers}
+use Rattle.fuse_sessions.specs.Numbers.{has_several_threads, has_several_writers}
 use Rattle.fuse_sessions.specs.Sessions.{Session}
 use Rattle.driven_sessions.specs.Driven.{NeverAccused}
 use Rattle.driven_sessions.specs.Groups.{is_of_one_thread}

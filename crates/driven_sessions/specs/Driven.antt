@@ -2,7 +2,7 @@
 use Rattle.std.specs.Prelude.{◌≡◌, ◌≤◌, ℕ, Bool, true, List, [], ◌∷◌, ◌++◌}
 use Rattle.fuse_spec.specs.Kernel.Uniques.{number_limit}
 use Rattle.fuse_device.specs.Transfers.{Transfer}
-use Rattle.fk_drive.specs.Driving.{Driven, Drives, first_driven, next, nothing}
+use Rattle.fk_drive.specs.Driving.{Driven, DriveStep, Drives, answers, first_driven, next, nothing, writes}
 use Rattle.fk_drive_theorem.specs.TakenOnce.{mounts_in}
 use Rattle.fuse_protocol.specs.declared.agreed.Agreed.{Agreed}
 use Rattle.protocol_law.specs.Law.{Carries}
@@ -19,10 +19,17 @@ use Rattle.driven_sessions.specs.Transfers.{AreSaid}
 abbrev pub IsOneMount : {old : Driven} {log : List Transfer} {new : Driven} → Drives old log new → Type 0
 IsOneMount run = mounts_in run ≤ 1
 
--- The kernel's coming number never passes its limit, as that of no kernel of `fk_kernel` does: above are OPENDIR's.
+-- No reply that the kernel takes has its coming number pass its limit, as none has that of a kernel of `fk_kernel`. Whatever
+-- else would is refused, so the number never does: above are OPENDIR's.
+abbrev pub LeavesNumbers : {old : Driven} {log : List Transfer} {new : Driven} → DriveStep old log new → Type 0
+LeavesNumbers (answers request error turn bytes written result k taken) = k.queues.next ≤ number_limit
+LeavesNumbers (writes idles frame rest there handed on result k taken log coming left turn release) =
+    k.queues.next ≤ number_limit
+LeavesNumbers step = Unit {0}
+
 abbrev pub HasNumbers : {old : Driven} {log : List Transfer} {new : Driven} → Drives old log new → Type 0
 HasNumbers nothing = Unit {0}
-HasNumbers (next before mid run log new step) = HasNumbers run × (new.kernel.queues.next ≤ number_limit)
+HasNumbers (next before mid run log new step) = HasNumbers run × LeavesNumbers step
 
 -- These are the transfers of a session of what went over a device. First it is said that requests may be out of order, as
 -- where several threads read: OPENDIR has higher numbers than the kernel's next requests.
