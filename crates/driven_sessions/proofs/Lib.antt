@@ -9,6 +9,7 @@ mod Reading
 mod Stepping
 mod Within
 mod Never
+mod Queues
 mod Evens
 mod Sending
 mod Single
