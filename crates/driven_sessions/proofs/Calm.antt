@@ -58,9 +58,11 @@ is_calm a = true
 abbrev pub AreCalm : List Act → Type 0
 AreCalm acts = list_all is_calm acts ≡ true
 
--- What is calm, and is no malformed request.
+-- What is calm, and is no malformed request, and no beginning of one.
 abbrev pub is_shown : Act → Bool
 is_shown (act.Faulty fault.MalformedRequest) = false
+is_shown (act.Faulty fault.InitNotFirst) = false
+is_shown (act.Begins o) = false
 is_shown a = is_calm a
 
 abbrev pub AreShown : List Act → Type 0
@@ -74,7 +76,9 @@ shown_calm (a ∷ acts) are =
   where
     by : (a : Act) → is_shown a ≡ true → is_calm a ≡ true
     by (act.Faulty fault.MalformedRequest) is = cc
+    by (act.Faulty fault.InitNotFirst) is = cc
     by (act.Faulty f) is = is
+    by (act.Begins o) is = cc
     by a is = is
 
 -- ---- no calm act shows one

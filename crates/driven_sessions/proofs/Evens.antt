@@ -14,7 +14,7 @@ use Rattle.fuse_spec.specs.declared.Purpose.{Purpose}
 use Rattle.fuse_spec.specs.declared.Purpose.TheVariants as purpose
 use Rattle.fuse_spec.specs.declared.QueuedRequest.{QueuedRequest}
 use Rattle.fuse_spec.specs.Kernel.Queues.{QueueState, empty_queues, pending, request_under, is_unread}
-use Rattle.fuse_spec.specs.Kernel.QueueCalls.{after_effect, after_enqueue, after_interrupt, after_interrupt_reply, after_reading, after_reply_effect, can_read_forgets, set_mark, without}
+use Rattle.fuse_spec.specs.Kernel.QueueCalls.{after_effect, after_enqueue, after_interrupt, after_interrupt_reply, after_reading, after_reply_effect, can_read_forgets, without}
 use Rattle.fuse_spec.specs.Kernel.Signals.{signal_effect, reply_effect}
 use Rattle.fuse_device.specs.Transfers.{Transfer}
 use Rattle.fk_kernel.specs.Picks.{after_pick}
@@ -23,7 +23,7 @@ use Rattle.fk_kernel.specs.declared.pick.Pick.TheVariants.{Interrupt, Forgets, P
 use Rattle.fk_drive.specs.Driving.{Driven, Drives, first_driven}
 use Rattle.fk_drive_theorem.proofs.Stable.{Stable, same_number}
 use Rattle.driven_sessions.proofs.Queues.{Closed, run_holds}
-use Rattle.driven_sessions.proofs.Numbers.{Each, Entry, each_at, each_push, each_removed, each_stable}
+use Rattle.driven_sessions.proofs.Numbers.{Each, Entry, each_at, each_push, each_remarked, each_removed, each_stable}
 
 -- Each of these numbers is even.
 abbrev pub AreEven : List ℕ → Type 0
@@ -65,15 +65,6 @@ even_filtered test (n ∷ ns) all = by (test n) (even_filtered test ns all.1)
     by : (b : Bool) → AreEven (filter test ns) → AreEven (cond b (n ∷ filter test ns) (filter test ns))
     by true rest = (all.0, rest)
     by false rest = rest
-
-even_marked : (u : ℕ) (m : Mark) (es : List Entry) → Each IsEven es → Each IsEven (set_mark u es m)
-even_marked u m [] all = tt
-even_marked u m (e ∷ es) all = by (nat_eq u e.0) (even_marked u m es all.1)
-  where
-    by : (b : Bool) → Each IsEven (set_mark u es m)
-        → Each IsEven (cond b ((e.0, record { mark = m; kept = e.1.kept }) ∷ es) (e ∷ set_mark u es m))
-    by true rest = (all.0, all.1)
-    by false rest = (all.0, rest)
 
 -- a number that has a request is even
 even_found : (u : ℕ) (es : List Entry) (r : QueuedRequest Purpose) → Each IsEven es → lookup (nat_eq u) es ≡ Some r
@@ -118,12 +109,12 @@ signal_evens q u fatal e = by (request_under q u) refl
     }
     effect Flagged is = record {
       next = e.next;
-      requests = even_marked u mark.Flagged q.requests e.requests;
+      requests = each_remarked IsEven (λ e m is. is) u mark.Flagged q.requests e.requests;
       interrupts = e.interrupts;
     }
     effect Queued is = record {
       next = e.next;
-      requests = even_marked u mark.Interrupted q.requests e.requests;
+      requests = each_remarked IsEven (λ e m is. is) u mark.Interrupted q.requests e.requests;
       interrupts = with_queued q.interrupts_off q.interrupts u e.interrupts is;
     }
     effect NoEffect is = e
@@ -155,12 +146,12 @@ reply_evens q u reply e = by (request_under q u) refl
 reading_evens : (q : QueueState Purpose) (u : ℕ) (m : Mark) → u % 2 ≡ 0 → Evens q → Evens (after_reading q u m)
 reading_evens q u mark.Unread is e = record {
   next = e.next;
-  requests = even_marked u mark.Read q.requests e.requests;
+  requests = each_remarked IsEven (λ e m is. is) u mark.Read q.requests e.requests;
   interrupts = e.interrupts;
 }
 reading_evens q u mark.Flagged is e = record {
   next = e.next;
-  requests = even_marked u mark.Interrupted q.requests e.requests;
+  requests = each_remarked IsEven (λ e m is. is) u mark.Interrupted q.requests e.requests;
   interrupts = with_queued q.interrupts_off q.interrupts u e.interrupts is;
 }
 reading_evens q u mark.Read is e = e

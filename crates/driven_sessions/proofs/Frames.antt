@@ -8,7 +8,7 @@ use Rattle.fk_wire.specs.Requests as wire
 use Rattle.fk_wire.proofs.Frames.{reads_back, spellings-append}
 use Rattle.fuse_spec.specs.declared.Opened.{Opened}
 use Rattle.fk_wire.specs.Pairs.{forget_ones}
-use Rattle.fuse_spec.specs.Kernel.Messages.{Forget, Request, RequestBody, interrupt}
+use Rattle.fuse_spec.specs.Kernel.Messages.{Forget, Request, RequestBody, init, interrupt}
 use Rattle.fuse_spec.specs.Server.Server.{forgets_of}
 use Rattle.fuse_frames.specs.RequestTies.{SaysRequest, body_in}
 use Rattle.fk_drive_frames.specs.OwnRequests.{IsOpendir, IsReleasedir}
@@ -28,6 +28,19 @@ code_of_interrupt : (nodeid : ℕ) (c : RequestContent) (body : RequestBody) →
     → nat_eq (code_of (opcode_of c)) 36 ≡ is_interrupt body
 code_of_interrupt nodeid (wire.lookup name) body says = ap interrupts_in says
 code_of_interrupt nodeid c body says = ap interrupts_in says
+
+abbrev pub is_init_body : RequestBody → Bool
+is_init_body (init flags) = true
+is_init_body body = false
+
+abbrev init_in : Option RequestBody → Bool
+init_in None = false
+init_in (Some body) = is_init_body body
+
+code_of_init : (nodeid : ℕ) (c : RequestContent) (body : RequestBody) → body_in nodeid c ≡ Some body
+    → nat_eq (code_of (opcode_of c)) 26 ≡ is_init_body body
+code_of_init nodeid (wire.lookup name) body says = ap init_in says
+code_of_init nodeid c body says = ap init_in says
 
 past_node : (b : Bool) (node : ℕ) (fs : List Field) (bytes : List ℕ)
     → ReadsAs 16 (nodeid_field b node ∷ free32 0 ∷ free32 0 ∷ free32 0 ∷ free32 0 ∷ fs) bytes → ReadsAs 40 fs bytes
@@ -49,6 +62,11 @@ module _ (frame : List ℕ) (request : Request) (says : SaysRequest frame reques
   frame_interrupt =
       ap (λ (n : ℕ). nat_eq n 36) says.spells.3.1.0
       ∙ code_of_interrupt says.message.nodeid says.message.content request.body says.says
+
+  pub frame_init : nat_eq (opcode_in frame) 26 ≡ is_init_body request.body
+  frame_init =
+      ap (λ (n : ℕ). nat_eq n 26) says.spells.3.1.0
+      ∙ code_of_init says.message.nodeid says.message.content request.body says.says
 
   -- An INTERRUPT has its request's number behind the header.
   original_of : (c : RequestContent) → body_in says.message.nodeid c ≡ Some request.body → ReadsAs 40 (request_body c) frame
@@ -175,3 +193,10 @@ releasedir_starts bytes unique opened is low =
     let parts : bytes ≡ spellings (u32 64 ∷ u32 29 ∷ u64 unique ∷ []) ++ spellings (behind_releasedir opened) =
     is ∙ spellings-append (u32 64 ∷ u32 29 ∷ u64 unique ∷ []) (behind_releasedir opened) in
     (ap (number_at 0 4) parts ∙ head.2, ap (number_at 4 4) parts ∙ head.0)
+
+-- Neither is INIT.
+pub own_no_init : (bytes : List ℕ) (unique : ℕ) → unique < 2 ^ 63 → IsOwn bytes unique
+    → nat_eq (opcode_in bytes) 26 ≡ false
+own_no_init bytes unique low (inl (node, is)) = ap (λ (n : ℕ). nat_eq n 26) (opendir_starts bytes unique node is low).1
+own_no_init bytes unique low (inr (opened, is)) =
+    ap (λ (n : ℕ). nat_eq n 26) (releasedir_starts bytes unique opened is low).1

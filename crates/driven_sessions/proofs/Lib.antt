@@ -21,3 +21,7 @@ mod Odd
 mod Plain
 mod Several
 mod Low
+mod InitNumbers
+mod Waiting
+mod Stages
+mod Late

@@ -95,6 +95,17 @@ module _ (P : Entry → Type 0) (marked : (e : Entry) (m : Mark) → P e → (is
           (marked e m all.0 (λ unread. ap is_unread same ∙ may unread), all.1)
       by false found rest = (all.0, rest found)
 
+-- What asks nothing of marks stays so.
+module _ (P : Entry → Type 0) (marked : (e : Entry) (m : Mark) → P e → P (e.0, record { mark = m; kept = e.1.kept })) where
+  pub each_remarked : (u : ℕ) (m : Mark) (es : List Entry) → Each P es → Each P (set_mark u es m)
+  each_remarked u m [] all = tt
+  each_remarked u m (e ∷ es) all = by (nat_eq u e.0) (each_remarked u m es all.1)
+    where
+      by : (b : Bool) → Each P (set_mark u es m)
+          → Each P (cond b ((e.0, record { mark = m; kept = e.1.kept }) ∷ es) (e ∷ set_mark u es m))
+      by true rest = (marked e m all.0, all.1)
+      by false rest = (all.0, rest)
+
 -- ---- what is true of the queues
 
 -- Each number is even and below the coming one, which is even.

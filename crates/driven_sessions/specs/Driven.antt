@@ -49,12 +49,17 @@ abbrev pub NeverAccused : (Fault → Bool) → Type 0
 NeverAccused group = (asks : Bool) (log : List Transfer) (new : Driven) → Drives (first_driven asks) log new
     → IsFreeOf group log
 
--- The same of a kernel that mounts once, whose numbers are not used up.
+-- The same of a kernel that mounts once.
+abbrev pub NeverAccusedMountedOnce : (Fault → Bool) → Type 0
+NeverAccusedMountedOnce group = (asks : Bool) (log : List Transfer) (new : Driven) (run : Drives (first_driven asks) log new)
+    → IsOneMount run → IsFreeOf group log
+
+-- And whose numbers are not used up.
 abbrev pub NeverAccusedInOneMount : (Fault → Bool) → Type 0
 NeverAccusedInOneMount group = (asks : Bool) (log : List Transfer) (new : Driven) (run : Drives (first_driven asks) log new)
     → IsOneMount run → HasNumbers run → IsFreeOf group log
 
--- The same of a kernel whose numbers are not used up, however often it mounts.
+-- Of one whose numbers are not used up, however often it mounts.
 abbrev pub NeverAccusedWithNumbers : (Fault → Bool) → Type 0
 NeverAccusedWithNumbers group = (asks : Bool) (log : List Transfer) (new : Driven) (run : Drives (first_driven asks) log new)
     → HasNumbers run → IsFreeOf group log

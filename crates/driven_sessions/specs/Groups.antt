@@ -41,3 +41,8 @@ is_of_one_thread f = false
 abbrev pub is_of_resends : Fault → Bool
 is_of_resends fault.ResendOfNothing = true
 is_of_resends f = false
+
+-- An INIT comes after another request.
+abbrev pub is_of_late_inits : Fault → Bool
+is_of_late_inits fault.InitNotFirst = true
+is_of_late_inits f = false

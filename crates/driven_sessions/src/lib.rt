@@ -8,6 +8,7 @@
 mod never_accused;
 
 pub use never_accused::{
-    forgets_are_of_lookups, frames_are_requests, interrupts_have_their_numbers, numbers_are_even,
-    numbers_are_used_once, readers_are_several, requests_are_not_resent, requests_are_whole,
+    forgets_are_of_lookups, frames_are_requests, init_is_first, interrupts_have_their_numbers,
+    numbers_are_even, numbers_are_used_once, readers_are_several, requests_are_not_resent,
+    requests_are_whole,
 };

@@ -4,8 +4,8 @@ ghost use Rattle.std.specs.Prelude.{Bool, List};
 ghost use Rattle.fuse_device.specs.Transfers.{Transfer};
 ghost use Rattle.fk_drive.specs.Driving.{Driven, Drives, first_driven};
 ghost use Rattle.driven_sessions.specs.Transfers.{AllSent, IsShaped};
-ghost use Rattle.driven_sessions.specs.Driven.{NeverAccused, NeverAccusedInOneMount, NeverAccusedWhereCarried, NeverAccusedWithNumbers};
-ghost use Rattle.driven_sessions.specs.Groups.{is_of_empty_forgets, is_of_interrupt_numbers, is_of_odd_numbers, is_of_one_thread, is_of_resends, is_of_shapes, is_of_used_numbers};
+ghost use Rattle.driven_sessions.specs.Driven.{NeverAccused, NeverAccusedInOneMount, NeverAccusedMountedOnce, NeverAccusedWhereCarried, NeverAccusedWithNumbers};
+ghost use Rattle.driven_sessions.specs.Groups.{is_of_empty_forgets, is_of_interrupt_numbers, is_of_late_inits, is_of_odd_numbers, is_of_one_thread, is_of_resends, is_of_shapes, is_of_used_numbers};
 
 /// Each frame that is sent is a request of a row, under each agreement that carries the codec's frames: no extensions, names
 /// of 255 bytes, and a minor version from 12 on.
@@ -49,4 +49,9 @@ pub fn readers_are_several()
 /// and those of OPENDIR and RELEASEDIR below 2^63, the bit of such requests.
 pub fn requests_are_not_resent()
     ensures { NeverAccusedWithNumbers is_of_resends }
+{}
+
+/// INIT comes before any other request, in one mount.
+pub fn init_is_first()
+    ensures { NeverAccusedMountedOnce is_of_late_inits }
 {}
