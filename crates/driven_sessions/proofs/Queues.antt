@@ -1,5 +1,5 @@
 -- What holds of the kernel's queues in any run, where each change of the queues alone keeps it.
-use Rattle.std.proofs.Common.{◌≡◌, ℕ, ◌+◌, ◌-◌, ◌%◌, Bool, true, false, cond, List, [], ◌∷◌, ◌++◌, Option, Some, None, nat_eq, refl, sym, subst}
+use Rattle.std.proofs.Common.{◌≡◌, ℕ, ◌-◌, ◌%◌, Bool, true, false, cond, List, [], ◌∷◌, ◌++◌, Option, Some, None, nat_eq, refl, sym, subst}
 use Rattle.fuse_spec.specs.declared.IntrEffect.{IntrEffect}
 use Rattle.fuse_spec.specs.declared.IntrEffect.TheVariants.{Dequeued, Flagged, Queued, None as NoEffect}
 use Rattle.fuse_spec.specs.declared.InterruptReply.{InterruptReply}

@@ -1,5 +1,5 @@
 -- Where several threads read, no rule is broken that is one of a single thread's.
-use Rattle.std.proofs.Common.{◌≡◌, ℕ, Bool, true, false, ◌||◌, List, [], ◌∷◌, refl, sym, ◌∙◌, ap}
+use Rattle.std.proofs.Common.{◌≡◌, ℕ, Bool, true, ◌||◌, List, [], ◌∷◌, refl, sym, ◌∙◌, ap}
 use Rattle.std.proofs.lemmas.Bool.{false≢true}
 use Rattle.fuse_device.specs.Transfers.{Transfer, received, sent, stopped, unsent}
 use Rattle.fuse_sessions.specs.declared.act.Act.{Act}
