@@ -22,6 +22,6 @@ mod Plain
 mod Several
 mod Low
 mod InitNumbers
-mod Waiting
+mod Starting
 mod Stages
 mod Late

@@ -20,7 +20,7 @@ use Rattle.driven_sessions.proofs.Numbers.{Passed, moves_passed, passed_stable}
 use Rattle.driven_sessions.proofs.Reading.{picked_alive}
 use Rattle.driven_sessions.proofs.Spent.{held, none_held, some_request}
 use Rattle.driven_sessions.proofs.Steps.{WhileLive, alone_dead, alone_keeps, taken_dead, taken_keeps}
-use Rattle.driven_sessions.proofs.Waiting.{Waits, WaitsOn, alone_waits, is_gone, mounted_waits, read_waits, taken_waits, waits_on}
+use Rattle.driven_sessions.proofs.Starting.{Waits, WaitsOn, alone_waits, is_gone, mounted_waits, read_waits, taken_waits, waits_on}
 
 -- INIT is sent only before anything else is. `any` says whether something was sent before.
 abbrev pub InitsFirst : (any : Bool) → List Transfer → Type 0
