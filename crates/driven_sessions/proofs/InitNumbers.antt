@@ -35,7 +35,7 @@ use Rattle.driven_sessions.proofs.Queues.{Closed, is_init, run_holds}
 abbrev BearsFirst : Entry → Type 0
 BearsFirst e = is_init e.1.kept ≡ true → e.0 ≡ 2
 
--- INIT bears it, among the requests that are queued.
+-- Each INIT that is queued does.
 abbrev pub InitsBearFirst : QueueState Purpose → Type 0
 InitsBearFirst q = Each BearsFirst q.requests
 
