@@ -58,28 +58,37 @@ is_calm a = true
 abbrev pub AreCalm : List Act → Type 0
 AreCalm acts = list_all is_calm acts ≡ true
 
--- What is calm, and is no malformed request, and no beginning of one.
+-- What a server shows: it is calm, is no fault of a request, begins none, and writes nothing.
 abbrev pub is_shown : Act → Bool
 is_shown (act.Faulty fault.MalformedRequest) = false
 is_shown (act.Faulty fault.InitNotFirst) = false
+is_shown (act.Faulty fault.WriteTooLarge) = false
 is_shown (act.Begins o) = false
+is_shown (act.Writes size) = false
 is_shown a = is_calm a
 
 abbrev pub AreShown : List Act → Type 0
 AreShown acts = list_all is_shown acts ≡ true
 
-pub shown_calm : (acts : List Act) → AreShown acts → AreCalm acts
-shown_calm [] are = refl
-shown_calm (a ∷ acts) are =
+-- It passes each test that such acts pass.
+pub shown_pass : (test : Act → Bool) → ((a : Act) → is_shown a ≡ true → test a ≡ true) → (acts : List Act)
+    → AreShown acts → list_all test acts ≡ true
+shown_pass test passes [] are = refl
+shown_pass test passes (a ∷ acts) are =
     let both = and_parts (is_shown a) (list_all is_shown acts) are in
-    and_from (is_calm a) (list_all is_calm acts) (by a both.0) (shown_calm acts both.1)
-  where
-    by : (a : Act) → is_shown a ≡ true → is_calm a ≡ true
-    by (act.Faulty fault.MalformedRequest) is = cc
-    by (act.Faulty fault.InitNotFirst) is = cc
-    by (act.Faulty f) is = is
-    by (act.Begins o) is = cc
-    by a is = is
+    and_from (test a) (list_all test acts) (passes a both.0) (shown_pass test passes acts both.1)
+
+pub is_calm_where_shown : (a : Act) → is_shown a ≡ true → is_calm a ≡ true
+is_calm_where_shown (act.Faulty fault.MalformedRequest) is = cc
+is_calm_where_shown (act.Faulty fault.InitNotFirst) is = cc
+is_calm_where_shown (act.Faulty fault.WriteTooLarge) is = cc
+is_calm_where_shown (act.Faulty f) is = is
+is_calm_where_shown (act.Begins o) is = cc
+is_calm_where_shown (act.Writes size) is = cc
+is_calm_where_shown a is = is
+
+pub shown_calm : (acts : List Act) → AreShown acts → AreCalm acts
+shown_calm = shown_pass is_calm is_calm_where_shown
 
 -- ---- no calm act shows one
 
@@ -123,6 +132,29 @@ takes s u taken.Invalid fit.Fits f b is = b
 takes s u taken.Invalid fit.FitsNot f b is = b
 takes s u taken.Invalid fit.MayFit f b is = b
 takes s u taken.Failed body f b is = b
+
+-- the faults of a device
+abbrev is_of_takings : Fault → Bool
+is_of_takings fault.AcceptedAfterTheEnd = true
+is_of_takings fault.AcceptedReplyToNothing = true
+is_of_takings fault.AcceptedWrongBody = true
+is_of_takings fault.RefusedReply = true
+is_of_takings f = false
+
+pub takes_none : (s : Session) (u : ℕ) (t : Taken) (body : Fit) (f : Fault) → is_of_takings f ≡ false
+    → BreaksTaking s u t body f → ⊥
+takes_none s u t body fault.AcceptedAfterTheEnd other b = cc
+takes_none s u t body fault.AcceptedReplyToNothing other b = cc
+takes_none s u t body fault.AcceptedWrongBody other b = cc
+takes_none s u t body fault.RefusedReply other b = cc
+takes_none s u taken.Accepted fit.Fits f other b = b
+takes_none s u taken.Accepted fit.FitsNot f other b = b
+takes_none s u taken.Accepted fit.MayFit f other b = b
+takes_none s u taken.NoEntry body f other b = b
+takes_none s u taken.Invalid fit.Fits f other b = b
+takes_none s u taken.Invalid fit.FitsNot f other b = b
+takes_none s u taken.Invalid fit.MayFit f other b = b
+takes_none s u taken.Failed body f other b = b
 
 replies : (s : Session) (u : ℕ) (f : Fault) → BreaksReply s u f → is_of_numbers f ≡ true → ⊥
 replies s u fault.ReplyToForget b is = cc

@@ -21,7 +21,7 @@ use Rattle.fuse_sessions.specs.declared.known.Known.{Known}
 use Rattle.fuse_sessions.specs.Frames.{AreRequestActs, IsRequestOf}
 use Rattle.fuse_sessions.specs.RequestActs.{asked_of, asking, forgets_in, naming, number_of, releasing, request_acts, resent, using, writing}
 use Rattle.fuse_sessions.specs.UnreadRequests.{asking_unread, has_header, malformed, may_be_known, opcode_in, takes_no_reply, unique_in, unjudged}
-use Rattle.driven_sessions.proofs.Calm.{AreCalm, AreShown, each_of, either, is_calm, is_shown, shown_calm}
+use Rattle.driven_sessions.proofs.Calm.{AreCalm, AreShown, each_of, either, is_calm, is_calm_where_shown, is_shown, shown_pass}
 
 -- One request is read under the frame's number, or forgets, or one is interrupted, or nothing of these.
 pub data Does (agreed : Agreed) (bytes : List ℕ) (acts : List Act) : Type 0 where
@@ -58,27 +58,32 @@ releasing_calm op.Release node h = refl
 releasing_calm op.Releasedir node h = refl
 releasing_calm o node h = refl
 
-writing_calm : (o : Opcode) (m : RequestMessage) → AreShown (writing o m)
-writing_calm op.Write m = refl
-writing_calm o m = refl
-
 abbrev pub behind : Opcode → RequestMessage → Asked → List Act
 behind o m asked = naming asked.nodeid ++ naming asked.other ++ using asked.uses ++ using asked.copies_to
     ++ releasing o m.nodeid m.handle ++ writing o m ++ act.Asks m.unique asked ∷ []
 
-pub behind_shown : (o : Opcode) (m : RequestMessage) (asked : Asked) → AreShown (behind o m asked)
-behind_shown o m asked =
-    let first : List Act = naming asked.nodeid ++ naming asked.other in
-    let second : List Act = first ++ using asked.uses in
-    let third : List Act = second ++ using asked.copies_to in
-    let fourth : List Act = third ++ releasing o m.nodeid m.handle in
-    let fifth : List Act = fourth ++ writing o m in
-    let one = each_of is_shown (naming asked.nodeid) (naming asked.other) (naming_calm asked.nodeid) (naming_calm asked.other) in
-    let two = each_of is_shown first (using asked.uses) one (using_calm asked.uses) in
-    let three = each_of is_shown second (using asked.copies_to) two (using_calm asked.copies_to) in
-    let four = each_of is_shown third (releasing o m.nodeid m.handle) three (releasing_calm o m.nodeid m.handle) in
-    let five = each_of is_shown fourth (writing o m) four (writing_calm o m) in
-    each_of is_shown fifth (act.Asks m.unique asked ∷ []) five refl
+-- A test passes it that shown acts pass, and what is written.
+module _ (test : Act → Bool) (passes : (a : Act) → is_shown a ≡ true → test a ≡ true) (o : Opcode) (m : RequestMessage)
+    (asked : Asked) where
+  pub behind_passes : list_all test (writing o m) ≡ true → list_all test (behind o m asked) ≡ true
+  behind_passes writes =
+      let first : List Act = naming asked.nodeid ++ naming asked.other in
+      let second : List Act = first ++ using asked.uses in
+      let third : List Act = second ++ using asked.copies_to in
+      let fourth : List Act = third ++ releasing o m.nodeid m.handle in
+      let fifth : List Act = fourth ++ writing o m in
+      let one = each_of is_shown (naming asked.nodeid) (naming asked.other) (naming_calm asked.nodeid) (naming_calm asked.other) in
+      let two = each_of is_shown first (using asked.uses) one (using_calm asked.uses) in
+      let three = each_of is_shown second (using asked.copies_to) two (using_calm asked.copies_to) in
+      let four = each_of is_shown third (releasing o m.nodeid m.handle) three (releasing_calm o m.nodeid m.handle) in
+      let five = each_of test fourth (writing o m) (shown_pass test passes fourth four) writes in
+      each_of test fifth (act.Asks m.unique asked ∷ []) five (shown_pass test passes (act.Asks m.unique asked ∷ []) refl)
+
+-- What is written is of WRITE.
+pub writing_passes : (test : Act → Bool) (m : RequestMessage) → list_all test (writing op.Write m) ≡ true → (o : Opcode)
+    → list_all test (writing o m) ≡ true
+writing_passes test m writes op.Write = writes
+writing_passes test m writes o = refl
 
 -- ---- a whole request
 
@@ -96,7 +101,7 @@ module _ (k : Known) (bytes : List ℕ) (acts : List Act) where
     reads_one : nat_eq (code_of o) 36 ≡ false → acts ≡ act.Arrives ∷ act.Begins o ∷ asking o m (asked_of o m)
         → Does k.agreed bytes acts
     reads_one apart same = reads (other apart) (act.Arrives ∷ act.Begins o ∷ []) (behind o m (asked_of o m)) refl
-        (shown_calm (behind o m (asked_of o m)) (behind_shown o m (asked_of o m))) (Some o)
+        (behind_passes is_calm is_calm_where_shown o m (asked_of o m) (writing_passes is_calm m refl o)) (Some o)
         (same ∙ ap (λ (u : ℕ). act.Arrives ∷ act.Begins o ∷ act.Read (Some o) u ∷ behind o m (asked_of o m)) (sym is.unique))
 
     other_row : nat_eq (code_of o) 36 ≡ false → (again : Bool) → (k.has_resent && nat_le (2 ^ 63) m.unique) ≡ again

@@ -1,5 +1,5 @@
 -- What the frames that are sent say by their headers.
-use Rattle.std.proofs.Common.{◌≡◌, ◌⊎◌, inl, inr, ℕ, ◌<◌, ◌^◌, Bool, true, false, List, [], ◌∷◌, ◌++◌, Option, Some, None, nat_eq, length, refl, sym, ◌∙◌, ap, subst, subst₂, append-nil, arith}
+use Rattle.std.proofs.Common.{◌≡◌, ◌⊎◌, inl, inr, ℕ, ◌≤◌, ◌<◌, ◌^◌, Bool, true, false, List, [], ◌∷◌, ◌++◌, Option, Some, None, nat_eq, length, refl, sym, ◌∙◌, ap, subst, subst₂, append-nil, arith}
 use Rattle.std.proofs.lemmas.Bool.{false≢true}
 use Rattle.fk_fields.specs.Fields.{Field, number_at, raw, u32, u64, free32, spellings, ReadsAs}
 use Rattle.fk_wire.specs.Opcodes.{code_of, has_node}
@@ -8,7 +8,8 @@ use Rattle.fk_wire.specs.Requests as wire
 use Rattle.fk_wire.proofs.Frames.{reads_back, spellings-append}
 use Rattle.fuse_spec.specs.declared.Opened.{Opened}
 use Rattle.fk_wire.specs.Pairs.{forget_ones}
-use Rattle.fuse_spec.specs.Kernel.Messages.{Forget, Request, RequestBody, init, interrupt}
+use Rattle.fuse_spec.specs.Files.Operations as operation
+use Rattle.fuse_spec.specs.Kernel.Messages.{Forget, Request, RequestBody, asks, init, interrupt}
 use Rattle.fuse_spec.specs.Server.Server.{forgets_of}
 use Rattle.fuse_frames.specs.RequestTies.{SaysRequest, body_in}
 use Rattle.fk_drive_frames.specs.OwnRequests.{IsOpendir, IsReleasedir}
@@ -47,7 +48,7 @@ past_node : (b : Bool) (node : ℕ) (fs : List Field) (bytes : List ℕ)
 past_node true node fs bytes reads = reads.1
 past_node false node fs bytes reads = reads
 
-some_body : (a b : RequestBody) → ◌≡◌ {A = Option RequestBody} (Some a) (Some b) → a ≡ b
+pub some_body : (a b : RequestBody) → ◌≡◌ {A = Option RequestBody} (Some a) (Some b) → a ≡ b
 some_body a b same = ap of same
   where
     of : Option RequestBody → RequestBody
@@ -79,6 +80,30 @@ module _ (frame : List ℕ) (request : Request) (says : SaysRequest frame reques
   frame_original = original_of says.message.content says.says (past_node
       (has_node (opcode_of says.message.content)) says.message.nodeid (request_body says.message.content) frame
       says.spells.3.1.1.1)
+
+-- A WRITE's size is that of its bytes.
+abbrev pub SmallBody : RequestBody → Type 0
+SmallBody (asks (operation.write o offset bytes)) = length bytes ≤ 4096
+SmallBody body = Unit {0}
+
+-- It is no WRITE, or a small one.
+abbrev pub SmallFrame : List ℕ → Type 0
+SmallFrame frame = nat_eq (opcode_in frame) 16 ≡ true → number_at 56 4 frame ≤ 4096
+
+module _ (frame : List ℕ) (request : Request) (says : SaysRequest frame request) (small : SmallBody request.body) where
+  small_content : (c : RequestContent) → body_in says.message.nodeid c ≡ Some request.body → ReadsAs 40 (request_body c) frame
+      → nat_eq (code_of (opcode_of c)) 16 ≡ true → number_at 56 4 frame ≤ 4096
+  small_content (wire.write fh offset bytes) is reads writes =
+      let few = subst SmallBody (sym (some_body (asks (operation.write (record { nodeid = says.message.nodeid; fh = fh })
+      offset bytes)) request.body is)) small in
+      let size : number_at 56 4 frame ≡ length bytes = reads.1.1.0 in
+      omega (arith, few, size)
+  small_content c is reads writes = absurd (false≢true writes)
+
+  pub frame_small : SmallFrame frame
+  frame_small writes = small_content says.message.content says.says (past_node
+      (has_node (opcode_of says.message.content)) says.message.nodeid (request_body says.message.content) frame
+      says.spells.3.1.1.1) (sym (ap (λ (n : ℕ). nat_eq n 16) says.spells.3.1.0) ∙ writes)
 
 -- What a frame says of forgets: lookups of a node, behind the header, or pairs.
 pub record SaysForgets (AreSuch : List Forget → Type 0) (frame : List ℕ) : Type 0 where
@@ -194,9 +219,10 @@ releasedir_starts bytes unique opened is low =
     is ∙ spellings-append (u32 64 ∷ u32 29 ∷ u64 unique ∷ []) (behind_releasedir opened) in
     (ap (number_at 0 4) parts ∙ head.2, ap (number_at 4 4) parts ∙ head.0)
 
--- Neither is INIT.
-pub own_no_init : (bytes : List ℕ) (unique : ℕ) → unique < 2 ^ 63 → IsOwn bytes unique
-    → nat_eq (opcode_in bytes) 26 ≡ false
-own_no_init bytes unique low (inl (node, is)) = ap (λ (n : ℕ). nat_eq n 26) (opendir_starts bytes unique node is low).1
-own_no_init bytes unique low (inr (opened, is)) =
-    ap (λ (n : ℕ). nat_eq n 26) (releasedir_starts bytes unique opened is low).1
+-- Both are of no other opcode than 27 and 29.
+pub own_other : (code : ℕ) → nat_eq 27 code ≡ false → nat_eq 29 code ≡ false → (bytes : List ℕ) (unique : ℕ)
+    → unique < 2 ^ 63 → IsOwn bytes unique → nat_eq (opcode_in bytes) code ≡ false
+own_other code opendir releasedir bytes unique low (inl (node, is)) =
+    ap (λ (n : ℕ). nat_eq n code) (opendir_starts bytes unique node is low).1 ∙ opendir
+own_other code opendir releasedir bytes unique low (inr (opened, is)) =
+    ap (λ (n : ℕ). nat_eq n code) (releasedir_starts bytes unique opened is low).1 ∙ releasedir

@@ -2,7 +2,7 @@
 use Rattle.std.proofs.Common.{◌≡◌, inl, inr, ℕ, ◌^◌, Bool, true, false, ◌&&◌, ◌||◌, not, List, [], ◌∷◌, ◌++◌, None, nat_eq, nat_le, refl, sym, ◌∙◌, ap, subst}
 use Rattle.std.specs.Borrow.{Bor}
 use Rattle.std.specs.List.{list_all, list_any}
-use Rattle.std.proofs.lemmas.Bool.{and_from, and_parts, false≢true, or_from}
+use Rattle.std.proofs.lemmas.Bool.{and_parts, false≢true, or_from}
 use Rattle.std.proofs.lemmas.List.Folds.{list_any-append}
 use Rattle.fuse_device.specs.Transfers.{Transfer, received, sent, stopped, unsent}
 use Rattle.fuse_protocol.specs.declared.opcode.Opcode.{Opcode}
@@ -12,16 +12,13 @@ use Rattle.fuse_protocol.specs.Requests.{RequestMessage}
 use Rattle.fuse_protocol.specs.Table.{code_of, row_at}
 use Rattle.fuse_sessions.specs.declared.act.Act.{Act}
 use Rattle.fuse_sessions.specs.declared.act.Act.TheVariants as act
-use Rattle.fuse_sessions.specs.declared.act.Fit.{Fit}
-use Rattle.fuse_sessions.specs.declared.act.Fit.TheVariants as fit
 use Rattle.fuse_sessions.specs.declared.act.Taken.{Taken}
-use Rattle.fuse_sessions.specs.declared.act.Taken.TheVariants as taken
 use Rattle.fuse_sessions.specs.declared.fault.Fault.{Fault}
 use Rattle.fuse_sessions.specs.declared.fault.Fault.TheVariants as fault
 use Rattle.fuse_sessions.specs.declared.known.Known.{Known}
 use Rattle.fuse_sessions.specs.declared.transfer.Transfer.{Transfer as Said}
 use Rattle.fuse_sessions.specs.declared.transfer.Transfer.TheVariants as said
-use Rattle.fuse_sessions.specs.Faults.{Breaks, BreaksBeginning, BreaksTaking}
+use Rattle.fuse_sessions.specs.Faults.{Breaks, BreaksBeginning}
 use Rattle.fuse_sessions.specs.Frames.{AreActs, AreReadActs, AreRequestActs, Lead}
 use Rattle.fuse_sessions.specs.Numbers.{is_reading, was_anything_read}
 use Rattle.fuse_sessions.specs.RequestActs.{asked_of, asking, doing, forgets_in, resent}
@@ -30,8 +27,8 @@ use Rattle.fuse_sessions.specs.UnreadRequests.{asking_unread, has_header, malfor
 use Rattle.driven_sessions.specs.Driven.{NeverAccusedMountedOnce}
 use Rattle.driven_sessions.specs.Groups.{is_of_late_inits}
 use Rattle.driven_sessions.specs.Transfers.{AreSaid}
-use Rattle.driven_sessions.proofs.Calm.{AreCalm, AreShown, each_of, either, is_calm, is_shown, shown_calm, written_shown}
-use Rattle.driven_sessions.proofs.Doing.{behind, behind_shown}
+use Rattle.driven_sessions.proofs.Calm.{AreCalm, AreShown, each_of, either, is_calm, is_shown, shown_calm, shown_pass, takes_none, written_shown}
+use Rattle.driven_sessions.proofs.Doing.{behind_passes, writing_passes}
 use Rattle.driven_sessions.proofs.Leading.{AreFree, free_append, never_at}
 use Rattle.driven_sessions.proofs.Never.{by_judged}
 use Rattle.driven_sessions.proofs.Stages.{InitsFirst, run_inits}
@@ -45,36 +42,23 @@ is_other a = true
 abbrev AreOther : List Act → Type 0
 AreOther acts = list_all is_other acts ≡ true
 
+is_other_where_shown : (a : Act) → is_shown a ≡ true → is_other a ≡ true
+is_other_where_shown (act.Faulty fault.InitNotFirst) is = is
+is_other_where_shown (act.Faulty f) is = refl
+is_other_where_shown (act.Begins o) is = absurd (false≢true is)
+is_other_where_shown a is = refl
+
 shown_other : (acts : List Act) → AreShown acts → AreOther acts
-shown_other [] are = refl
-shown_other (a ∷ acts) are =
-    let both = and_parts (is_shown a) (list_all is_shown acts) are in
-    and_from (is_other a) (list_all is_other acts) (by a both.0) (shown_other acts both.1)
-  where
-    by : (a : Act) → is_shown a ≡ true → is_other a ≡ true
-    by (act.Faulty fault.InitNotFirst) is = is
-    by (act.Faulty f) is = refl
-    by (act.Begins o) is = absurd (false≢true is)
-    by a is = refl
+shown_other = shown_pass is_other is_other_where_shown
 
 begins_none : (s : Session) (o : Opcode) → is_other (act.Begins o) ≡ true → BreaksBeginning s o fault.InitNotFirst → ⊥
 begins_none s op.Init other b = false≢true other
 begins_none s o other b = b
 
-takes_none : (s : Session) (u : ℕ) (t : Taken) (body : Fit) → BreaksTaking s u t body fault.InitNotFirst → ⊥
-takes_none s u taken.Accepted fit.Fits b = b
-takes_none s u taken.Accepted fit.FitsNot b = b
-takes_none s u taken.Accepted fit.MayFit b = b
-takes_none s u taken.NoEntry body b = b
-takes_none s u taken.Invalid fit.Fits b = b
-takes_none s u taken.Invalid fit.FitsNot b = b
-takes_none s u taken.Invalid fit.MayFit b = b
-takes_none s u taken.Failed body b = b
-
 other_act : (s : Session) (a : Act) → is_other a ≡ true → Breaks s a fault.InitNotFirst → ⊥
 other_act s (act.Faulty that) other b = false≢true (ap is_other (ap act.Faulty b) ∙ other)
 other_act s (act.Begins o) other b = begins_none s o other b
-other_act s (act.Takes u t body) other b = takes_none s u t body b
+other_act s (act.Takes u t body) other b = takes_none s u t body fault.InitNotFirst refl b
 other_act s a other b = b
 
 other_law : (s : Session) (a : Act) (f : Fault) → is_other a ≡ true → Breaks s a f → is_of_late_inits f ≡ true → ⊥
@@ -99,7 +83,7 @@ doing_other again op.NotifyReply m = refl
 doing_other again op.Forget m = refl
 doing_other again op.BatchForget m = forgets_other (pairs_of_row (row_at op.BatchForget).tail m.tail)
 doing_other again o m = either is_other again (resent o m) (asking o m (asked_of o m)) refl
-    (shown_other (behind o m (asked_of o m)) (behind_shown o m (asked_of o m)))
+    (behind_passes is_other is_other_where_shown o m (asked_of o m) (writing_passes is_other m refl o))
 
 begun_free : (s : Session) (o : Opcode) → (o ≡ op.Init → was_anything_read s ≡ false) → (f : Fault)
     → BreaksBeginning s o f → is_of_late_inits f ≡ true → ⊥

@@ -12,6 +12,7 @@ mod Never
 mod Queues
 mod Evens
 mod Sending
+mod Sessions
 mod Single
 mod Forgetting
 mod Forgotten
@@ -25,3 +26,5 @@ mod InitNumbers
 mod Starting
 mod Stages
 mod Late
+mod WriteSizes
+mod Large

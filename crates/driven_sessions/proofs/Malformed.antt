@@ -2,7 +2,7 @@
 use Rattle.std.proofs.Common.{◌≡◌, inl, inr, ℕ, ◌^◌, Bool, true, false, ◌&&◌, List, [], ◌∷◌, ◌++◌, nat_le, refl, sym, ◌∙◌, ap, subst}
 use Rattle.std.specs.Borrow.{Bor}
 use Rattle.std.specs.List.{list_all}
-use Rattle.std.proofs.lemmas.Bool.{and_from, and_parts, false≢true}
+use Rattle.std.proofs.lemmas.Bool.{and_parts, false≢true}
 use Rattle.fuse_device.specs.Transfers.{Transfer, received, sent, stopped, unsent}
 use Rattle.fuse_protocol.specs.declared.opcode.Opcode.{Opcode}
 use Rattle.fuse_protocol.specs.declared.opcode.Opcode.TheVariants as op
@@ -12,24 +12,21 @@ use Rattle.fuse_protocol.specs.Table.{row_at}
 use Rattle.protocol_law.specs.Law.{Carries}
 use Rattle.fuse_sessions.specs.declared.act.Act.{Act}
 use Rattle.fuse_sessions.specs.declared.act.Act.TheVariants as act
-use Rattle.fuse_sessions.specs.declared.act.Fit.{Fit}
-use Rattle.fuse_sessions.specs.declared.act.Fit.TheVariants as fit
 use Rattle.fuse_sessions.specs.declared.act.Taken.{Taken}
-use Rattle.fuse_sessions.specs.declared.act.Taken.TheVariants as taken
 use Rattle.fuse_sessions.specs.declared.fault.Fault.{Fault}
 use Rattle.fuse_sessions.specs.declared.fault.Fault.TheVariants as fault
 use Rattle.fuse_sessions.specs.declared.known.Known.{Known}
 use Rattle.fuse_sessions.specs.declared.transfer.Transfer.{Transfer as Said}
 use Rattle.fuse_sessions.specs.declared.transfer.Transfer.TheVariants as said
-use Rattle.fuse_sessions.specs.Faults.{Breaks, BreaksBeginning, BreaksTaking}
+use Rattle.fuse_sessions.specs.Faults.{Breaks, BreaksBeginning}
 use Rattle.fuse_sessions.specs.Frames.{AreActs, AreReadActs, AreRequestActs, Lead}
 use Rattle.fuse_sessions.specs.RequestActs.{asked_of, asking, doing, forgets_in, resent}
 use Rattle.fuse_sessions.specs.Sessions.{Session}
 use Rattle.driven_sessions.specs.Driven.{HaveAgreed, NeverAccusedWhereCarried}
 use Rattle.driven_sessions.specs.Groups.{is_of_shapes}
 use Rattle.driven_sessions.specs.Transfers.{AllSent, AreSaid, IsShaped}
-use Rattle.driven_sessions.proofs.Calm.{AreShown, either, is_shown, written_shown}
-use Rattle.driven_sessions.proofs.Doing.{behind, behind_shown}
+use Rattle.driven_sessions.proofs.Calm.{AreShown, either, is_shown, shown_pass, takes_none, written_shown}
+use Rattle.driven_sessions.proofs.Doing.{behind_passes, writing_passes}
 use Rattle.driven_sessions.proofs.Leading.{AreFree, free_append, never_at}
 use Rattle.driven_sessions.proofs.Never.{by_judged}
 use Rattle.driven_sessions.proofs.Shapes.{run_shaped}
@@ -42,35 +39,22 @@ is_whole a = true
 abbrev AreWhole : List Act → Type 0
 AreWhole acts = list_all is_whole acts ≡ true
 
+is_whole_where_shown : (a : Act) → is_shown a ≡ true → is_whole a ≡ true
+is_whole_where_shown (act.Faulty fault.MalformedRequest) is = is
+is_whole_where_shown (act.Faulty f) is = refl
+is_whole_where_shown a is = refl
+
 shown_whole : (acts : List Act) → AreShown acts → AreWhole acts
-shown_whole [] are = refl
-shown_whole (a ∷ acts) are =
-    let both = and_parts (is_shown a) (list_all is_shown acts) are in
-    and_from (is_whole a) (list_all is_whole acts) (by a both.0) (shown_whole acts both.1)
-  where
-    by : (a : Act) → is_shown a ≡ true → is_whole a ≡ true
-    by (act.Faulty fault.MalformedRequest) is = is
-    by (act.Faulty f) is = refl
-    by a is = refl
+shown_whole = shown_pass is_whole is_whole_where_shown
 
 begins_none : (s : Session) (o : Opcode) → BreaksBeginning s o fault.MalformedRequest → ⊥
 begins_none s op.Init b = b
 begins_none s o b = b
 
-takes_none : (s : Session) (u : ℕ) (t : Taken) (body : Fit) → BreaksTaking s u t body fault.MalformedRequest → ⊥
-takes_none s u taken.Accepted fit.Fits b = b
-takes_none s u taken.Accepted fit.FitsNot b = b
-takes_none s u taken.Accepted fit.MayFit b = b
-takes_none s u taken.NoEntry body b = b
-takes_none s u taken.Invalid fit.Fits b = b
-takes_none s u taken.Invalid fit.FitsNot b = b
-takes_none s u taken.Invalid fit.MayFit b = b
-takes_none s u taken.Failed body b = b
-
 whole_act : (s : Session) (a : Act) → is_whole a ≡ true → Breaks s a fault.MalformedRequest → ⊥
 whole_act s (act.Faulty that) whole b = false≢true (ap is_whole (ap act.Faulty b) ∙ whole)
 whole_act s (act.Begins o) whole b = begins_none s o b
-whole_act s (act.Takes u t body) whole b = takes_none s u t body b
+whole_act s (act.Takes u t body) whole b = takes_none s u t body fault.MalformedRequest refl b
 whole_act s a whole b = b
 
 whole_law : (s : Session) (a : Act) (f : Fault) → is_whole a ≡ true → Breaks s a f → is_of_shapes f ≡ true → ⊥
@@ -95,7 +79,7 @@ doing_whole again op.NotifyReply m = refl
 doing_whole again op.Forget m = refl
 doing_whole again op.BatchForget m = forgets_whole (pairs_of_row (row_at op.BatchForget).tail m.tail)
 doing_whole again o m = either is_whole again (resent o m) (asking o m (asked_of o m)) refl
-    (shown_whole (behind o m (asked_of o m)) (behind_shown o m (asked_of o m)))
+    (behind_passes is_whole is_whole_where_shown o m (asked_of o m) (writing_passes is_whole m refl o))
 
 request_whole : (k : Known) (frame : List ℕ) (acts : List Act) → IsShaped frame → Carries k.agreed
     → AreRequestActs k frame acts → AreWhole acts

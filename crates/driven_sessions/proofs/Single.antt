@@ -1,11 +1,10 @@
 -- Groups of faults that a frame shows by itself, whatever went before it.
 use Rattle.std.proofs.Common.{◌≡◌, ◌≤◌, ℕ, ◌+◌, Bool, true, false, List, [], ◌∷◌, ◌++◌, take, drop, length, Some, None, nat_eq, nat_le, refl, sym, ◌∙◌, ap, subst, arith, length-drop, length-take, if◌then◌else◌}
-use Rattle.std.specs.Borrow.{Bor}
 use Rattle.std.proofs.lemmas.Bool.{false≢true}
 use Rattle.std.proofs.lemmas.Bool.Decides.{nat_tests}
 use Rattle.byteorder.specs.Numbers.{little_from-take}
 use Rattle.fk_fields.specs.Fields.{number_at}
-use Rattle.fuse_device.specs.Transfers.{Transfer, received, sent, stopped, unsent}
+use Rattle.fuse_device.specs.Transfers.{Transfer}
 use Rattle.fuse_protocol.specs.declared.agreed.Agreed.{Agreed}
 use Rattle.fuse_protocol.specs.declared.opcode.Opcode.{Opcode}
 use Rattle.fuse_protocol.specs.declared.opcode.Opcode.TheVariants as op
@@ -17,22 +16,19 @@ use Rattle.fuse_sessions.specs.declared.act.Act.{Act}
 use Rattle.fuse_sessions.specs.declared.act.Act.TheVariants as act
 use Rattle.fuse_sessions.specs.declared.fault.Fault.{Fault}
 use Rattle.fuse_sessions.specs.declared.fault.Fault.TheVariants as fault
-use Rattle.fuse_sessions.specs.declared.known.Known.{Known}
-use Rattle.fuse_sessions.specs.declared.transfer.Transfer.{Transfer as Said}
-use Rattle.fuse_sessions.specs.declared.transfer.Transfer.TheVariants as said
 use Rattle.fuse_sessions.specs.Faults.{Breaks, BreaksNumber}
-use Rattle.fuse_sessions.specs.Frames.{AreActs, AreReadActs, IsRequestOf, Lead}
+use Rattle.fuse_sessions.specs.Frames.{IsRequestOf}
 use Rattle.fuse_sessions.specs.RequestActs.{asked_of, forgets_in, number_of}
 use Rattle.fuse_sessions.specs.Sessions.{Session}
 use Rattle.fuse_sessions.specs.UnreadRequests.{unique_in}
 use Rattle.driven_sessions.specs.Driven.{IsFreeOf, NeverAccused}
 use Rattle.driven_sessions.specs.Groups.{is_of_interrupt_numbers}
-use Rattle.driven_sessions.specs.Transfers.{AllSent, AreSaid}
-use Rattle.driven_sessions.proofs.Calm.{is_of_numbers}
+use Rattle.driven_sessions.specs.Transfers.{AllSent}
+use Rattle.driven_sessions.proofs.Calm.{is_of_numbers, shown_calm}
 use Rattle.driven_sessions.proofs.Doing.{Does, comes_again, forgets_many, forgets_one, interrupts, nothing, reads, request_does}
-use Rattle.driven_sessions.proofs.Leading.{AreFree, HasSeveral, calm_free, free_append, never_at, several_append}
-use Rattle.driven_sessions.proofs.Never.{by_judged, ended_calm, written_is_calm}
+use Rattle.driven_sessions.proofs.Leading.{AreFree, HasSeveral, calm_free, free_append}
 use Rattle.driven_sessions.proofs.Sending.{IsInterruptRight, run_right}
+use Rattle.driven_sessions.proofs.Sessions.{such_free}
 
 -- ---- what the struct of a request says
 
@@ -75,38 +71,9 @@ ShowsNoneBy group IsSuch = (agreed : Agreed) (frame : List ℕ) (s : Session) (a
 
 module _ (group : Fault → Bool) (within : (f : Fault) → group f ≡ true → is_of_numbers f ≡ true)
     (IsSuch : List ℕ → Type 0) where
-  module _ (shows : ShowsNoneAmong group IsSuch) where
-    request_free : (k : Known) (s : Session) (b : Bor (List ℕ)) (acts : List Act) (later : Known) → HasSeveral s
-        → IsSuch b.now → AreActs k s (said.Request b) acts later → AreFree group s acts
-    request_free k s b acts later several such is = by_judged (AreFree group s acts) k.unjudged
-        (AreReadActs k s (said.Request b) acts later) (λ why. (acts ≡ []) × (later ≡ k))
-        (λ judged does. shows k.agreed b.now s acts several such (request_does k b.now acts does.0))
-        (λ why unjudged none. subst (AreFree group s) (sym none.0) tt) is
-
-    session_free : (log : List Transfer) → AllSent IsSuch log → (ts : List Said) → AreSaid log ts → (k : Known)
-        (s : Session) → HasSeveral s → AreFree group [] s → (later : Known) (all : Session) → Lead k s ts later all
-        → AreFree group [] all
-    session_free [] such [] is k s several free later all leads = subst (AreFree group []) (sym leads.1) free
-    session_free (sent frame result ∷ log) such (said.Request b ∷ ts) is k s several free later all (acts, known, are, leads) =
-        session_free log such.1 ts is.1 known (s ++ acts) (several_append s acts several) (free_append group [] s acts free
-        (request_free k s b acts known several (subst IsSuch (sym is.0) such.0) are)) later all leads
-    session_free (received frame ∷ log) such (said.Written b t ∷ ts) is k s several free later all (acts, known, are, leads) =
-        session_free log such ts is.1 known (s ++ acts) (several_append s acts several) (free_append group [] s acts free
-        (calm_free group within s acts (written_is_calm k s b t acts known are))) later all leads
-    session_free (unsent frame end ∷ log) such (said.Ended ∷ ts) is k s several free later all (acts, known, are, leads) =
-        session_free log such ts is.1 known (s ++ acts) (several_append s acts several) (free_append group [] s acts free
-        (calm_free group within s acts (ended_calm k s acts known are))) later all leads
-    session_free (stopped end ∷ log) such (said.Ended ∷ ts) is k s several free later all (acts, known, are, leads) =
-        session_free log such ts is.1 known (s ++ acts) (several_append s acts several) (free_append group [] s acts free
-        (calm_free group within s acts (ended_calm k s acts known are))) later all leads
-    session_free log such ts is k s several free later all leads = absurd search
-
-    pub among_free : (log : List Transfer) → AllSent IsSuch log → IsFreeOf group log
-    among_free log such s (ts, is, k, (acts, known, are, leads)) place f has of =
-        let first : acts ≡ act.SeveralReaders ∷ [] = are.0 in
-        never_at group [] s (session_free log such ts is known acts (subst HasSeveral (sym first) refl)
-        (subst (AreFree group []) (sym first) (calm_free group within [] (act.SeveralReaders ∷ []) refl)) k s leads) place f
-        has of
+  pub among_free : ShowsNoneAmong group IsSuch → (log : List Transfer) → AllSent IsSuch log → IsFreeOf group log
+  among_free shows = such_free group (λ s acts are. calm_free group within s acts (shown_calm acts are)) IsSuch
+      (λ k frame s acts several such does. shows k.agreed frame s acts several such (request_does k frame acts does))
 
   pub single_free : ShowsNoneBy group IsSuch → (log : List Transfer) → AllSent IsSuch log → IsFreeOf group log
   single_free shows = among_free (λ agreed frame s acts several. shows agreed frame s acts)

@@ -14,7 +14,7 @@ use Rattle.fk_drive_theorem.proofs.OneEach.{OneEach, run_one}
 use Rattle.fk_drive_theorem.proofs.RunsTally.{run_tallied}
 use Rattle.fk_drive_theorem.proofs.WrittenCounted.{EmptyUnlessLive}
 use Rattle.fuse_sessions.specs.UnreadRequests.{opcode_in}
-use Rattle.driven_sessions.proofs.Frames.{IsOwn, frame_init, is_init_body, own_no_init}
+use Rattle.driven_sessions.proofs.Frames.{IsOwn, frame_init, is_init_body, own_other}
 use Rattle.driven_sessions.proofs.InitNumbers.{InitsBearFirst, picked_no_init, picked_passed, run_first}
 use Rattle.driven_sessions.proofs.Numbers.{Passed, moves_passed, passed_stable}
 use Rattle.driven_sessions.proofs.Reading.{picked_alive}
@@ -197,7 +197,7 @@ held_firsts any frame r other says log (at_end end) = tt
 own_firsts : (any : Bool) (frame : List ℕ) (unique : ℕ) → unique < 2 ^ 63 → IsOwn frame unique → (log : List Transfer)
     → SendsFrame frame log → InitsFirst any log
 own_firsts any frame unique low own log (with_result result) =
-    (λ init. absurd (true≢false (sym init ∙ own_no_init frame unique low own)), tt)
+    (λ init. absurd (true≢false (sym init ∙ own_other 26 refl refl frame unique low own)), tt)
 own_firsts any frame unique low own log (at_end end) = tt
 
 none_holds : (turn : Turn) → held turn ≡ None → HoldsNoInit turn

@@ -46,3 +46,8 @@ is_of_resends f = false
 abbrev pub is_of_late_inits : Fault → Bool
 is_of_late_inits fault.InitNotFirst = true
 is_of_late_inits f = false
+
+-- A WRITE has more bytes than were agreed on.
+abbrev pub is_of_large_writes : Fault → Bool
+is_of_large_writes fault.WriteTooLarge = true
+is_of_large_writes f = false

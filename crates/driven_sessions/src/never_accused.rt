@@ -5,7 +5,7 @@ ghost use Rattle.fuse_device.specs.Transfers.{Transfer};
 ghost use Rattle.fk_drive.specs.Driving.{Driven, Drives, first_driven};
 ghost use Rattle.driven_sessions.specs.Transfers.{AllSent, IsShaped};
 ghost use Rattle.driven_sessions.specs.Driven.{NeverAccused, NeverAccusedInOneMount, NeverAccusedMountedOnce, NeverAccusedWhereCarried, NeverAccusedWithNumbers};
-ghost use Rattle.driven_sessions.specs.Groups.{is_of_empty_forgets, is_of_interrupt_numbers, is_of_late_inits, is_of_odd_numbers, is_of_one_thread, is_of_resends, is_of_shapes, is_of_used_numbers};
+ghost use Rattle.driven_sessions.specs.Groups.{is_of_empty_forgets, is_of_interrupt_numbers, is_of_large_writes, is_of_late_inits, is_of_odd_numbers, is_of_one_thread, is_of_resends, is_of_shapes, is_of_used_numbers};
 
 /// Each frame that is sent is a request of a row, under each agreement that carries the codec's frames: no extensions, names
 /// of 255 bytes, and a minor version from 12 on.
@@ -54,4 +54,9 @@ pub fn requests_are_not_resent()
 /// INIT comes before any other request, in one mount.
 pub fn init_is_first()
     ensures { NeverAccusedMountedOnce is_of_late_inits }
+{}
+
+/// No WRITE has more bytes than were agreed on: none has more than 4,096, which each server takes.
+pub fn writes_are_small()
+    ensures { NeverAccused is_of_large_writes }
 {}
