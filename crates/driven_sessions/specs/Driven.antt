@@ -19,14 +19,14 @@ use Rattle.driven_sessions.specs.Transfers.{AreSaid}
 abbrev pub IsOneMount : {old : Driven} {log : List Transfer} {new : Driven} → Drives old log new → Type 0
 IsOneMount run = mounts_in run ≤ 1
 
--- No reply that the kernel takes has its coming number pass its limit, as none has that of a kernel of `fk_kernel`. Whatever
--- else would is refused, so the number never does: above are OPENDIR's.
+-- No reply that the kernel takes has its coming number pass its limit, as none has that of a kernel of `fk_kernel`.
 abbrev pub LeavesNumbers : {old : Driven} {log : List Transfer} {new : Driven} → DriveStep old log new → Type 0
 LeavesNumbers (answers request error turn bytes written result k taken) = k.queues.next ≤ number_limit
 LeavesNumbers (writes idles frame rest there handed on result k taken log coming left turn release) =
     k.queues.next ≤ number_limit
 LeavesNumbers step = Unit {0}
 
+-- None in a run does. Whatever else would is refused, so the number never passes: above are OPENDIR's.
 abbrev pub HasNumbers : {old : Driven} {log : List Transfer} {new : Driven} → Drives old log new → Type 0
 HasNumbers nothing = Unit {0}
 HasNumbers (next before mid run log new step) = HasNumbers run × LeavesNumbers step
