@@ -1,5 +1,5 @@
 use Rattle.std.proofs.Common.{arith, refl}
 use Rattle.fuseworld.proofs.drive.drive_input.Goals as goal
 
-pub returns-in_default : goal.returns-in_default
-returns-in_default g c = rw c.no_memory.ensures.status (2, omega arith, refl)
+pub returns-in-Err : goal.returns-in-Err
+returns-in-Err g c = rw c.no_memory.ensures.status (2, omega arith, refl)
