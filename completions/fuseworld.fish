@@ -66,6 +66,9 @@ complete -c fuseworld -n '__fish_seen_subcommand_from drive' -l random -d 'Choos
 complete -c fuseworld -n '__fish_seen_subcommand_from drive' -l any -d 'Choose also what Linux would not send'
 complete -c fuseworld -n '__fish_seen_subcommand_from drive' -l seed -x -d 'The number that chooses them'
 complete -c fuseworld -n '__fish_seen_subcommand_from drive' -l events -x -d 'How many are chosen'
+complete -c fuseworld -n '__fish_seen_subcommand_from drive' -l orders -d 'Print every order of the messages of calls'
+complete -c fuseworld -n '__fish_seen_subcommand_from drive' -l number -d 'Print how many orders there are'
+complete -c fuseworld -n '__fish_seen_subcommand_from drive' -l nth -x -d 'Print this order'
 complete -c fuseworld -n '__fish_seen_subcommand_from drive' -l help -d 'Print help'
 
 complete -c fuseworld -n __fish_use_subcommand -a kernel -d 'Be the kernel alone, a line at a time'

@@ -66,7 +66,7 @@ serve_app minors = with_rule (with_rule (with_rule (with_rule (with_rule (with_r
 
 abbrev pub drive_app : App
 drive_app = with_rule (with_rule (with_rule (with_rule (with_rule (with_rule (with_rule (with_rule (with_rule (with_rule (with_rule
-    (with_rule (with_rule (with_rule (with_rule (with_rule (new_app (codes "drive"))
+    (with_rule (with_rule (with_rule (with_rule (with_rule (with_rule (with_rule (with_rule (new_app (codes "drive"))
     (flag (codes "calls")))
     (flag (codes "beside")))
     (flag (codes "no-opendir")))
@@ -81,6 +81,9 @@ drive_app = with_rule (with_rule (with_rule (with_rule (with_rule (with_rule (wi
     (flag (codes "any")))
     (number (codes "seed") 0 last_node (codes "1")))
     (number (codes "events") 0 last_node (codes "400")))
+    (flag (codes "orders")))
+    (flag (codes "number")))
+    (number (codes "nth") 0 last_node (codes "0")))
     (needed (codes "FILE")))
     (new_rule (codes "SOCK"))
 

@@ -122,6 +122,9 @@ pub record AsksDrive (rows : List Row) (t : DriveTask) : Type 0 where
   pub seed : t.seed ≡ number_of (codes "seed") 1 rows
   pub events : t.events ≡ number_of (codes "events") 400 rows
   pub reports : t.is_report_only ≡ is_set (codes "report-only") rows
+  pub orders : t.is_orders ≡ is_set (codes "orders") rows
+  pub number : t.is_numbered ≡ is_set (codes "number") rows
+  pub nth : t.nth ≡ number_of (codes "nth") 0 rows
 
 -- how a side prints
 abbrev pub print_of : List Row → Print

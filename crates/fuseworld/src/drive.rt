@@ -26,6 +26,7 @@ use fw_drive::{
 };
 use fw_json::JsonLines;
 use fw_judged::JudgedServer;
+use fw_orders::{Wanted, print_orders};
 use fw_output::{LimitedWriter, room_in_file};
 use fw_random::{Commented, RandomLines};
 use fw_script::no_memory;
@@ -68,6 +69,12 @@ pub struct DriveTask<'a> {
     events: u64,
     /// Whether the exit status is 0 also where something was found.
     is_report_only: bool,
+    /// Whether the orders of calls are printed, and nothing is driven.
+    is_orders: bool,
+    /// Whether it is printed how many orders there are.
+    is_numbered: bool,
+    /// The order that is printed, from 1; 0 for all.
+    nth: u64,
 }
 
 /// The option for further flags of INIT.
@@ -140,6 +147,28 @@ fn with_draws<'a>(alloc: Global, command: Command<'a>) -> Result<Command<'a>, Al
     command.arg(random)?.arg(any)?.arg(seed)?.arg(events)
 }
 
+/// The arguments of orders.
+fn with_orders<'a>(alloc: Global, command: Command<'a>) -> Result<Command<'a>, AllocError>
+    ensures { IfOk result (λ all. (fields_of command.entry).has_globals ≡ false
+        → IsCommand (with_rule (with_rule (with_rule (app_of command.entry) (flag (codes "orders")))
+        (flag (codes "number"))) (number (codes "nth") 0 last_node (codes "0"))) all) }
+{
+    let orders = flag(
+        alloc,
+        "orders",
+        "Print every order of the messages of the calls in FILE, each as a script",
+    );
+    let number = flag(alloc, "number", "With --orders: print how many there are");
+    let nth = number_argument(
+        alloc,
+        "nth",
+        "K",
+        "0",
+        "With --orders: print this one, from 1; 0 for all",
+    );
+    command.arg(orders)?.arg(number)?.arg(nth)
+}
+
 /// The arguments.
 fn with_places<'a>(alloc: Global, command: Command<'a>) -> Result<Command<'a>, AllocError>
     ensures { IfOk result (λ both. (fields_of command.entry).has_globals ≡ false
@@ -196,7 +225,8 @@ pub fn drive_command<'a>(alloc: Global) -> Result<Command<'a>, AllocError>
         .arg(flag(alloc, "json", "Print a JSON object for each line"))?
         .arg(wait)?
         .arg(offer_argument(alloc))?;
-    with_places(alloc, with_draws(alloc, with_findings(alloc, command)?)?)
+    let command = with_draws(alloc, with_findings(alloc, command)?)?;
+    with_places(alloc, with_orders(alloc, command)?)
 }
 
 /// What the script has in its lines.
@@ -241,6 +271,9 @@ pub fn drive_task<'a>(matches: &ArgMatches<'a>) -> DriveTask<'a>
         seed: number(matches, "seed", 1),
         events: number(matches, "events", 400),
         is_report_only: is_set(matches, "report-only"),
+        is_orders: is_set(matches, "orders"),
+        is_numbered: is_set(matches, "number"),
+        nth: number(matches, "nth", 0),
     }
 }
 
@@ -643,6 +676,49 @@ fn drive_task_of(rt: &HostRuntime, asked: DriveTask<'_>, task: Task<'_>) -> u8
     }
 }
 
+/// Which orders are printed.
+fn wanted(asked: DriveTask<'_>) -> Wanted {
+    match (asked.is_numbered, asked.nth) {
+        (true, _) => Wanted::Number,
+        (false, 0) => Wanted::All,
+        (false, nth) => Wanted::Nth(nth),
+    }
+}
+
+/// Prints the orders of a file of calls, and gives the exit status.
+fn print_orders_of(rt: &HostRuntime, asked: DriveTask<'_>) -> u8
+    ensures { Contains drive_statuses result }
+{
+    let alloc = rt.alloc();
+    let mut faults = rt.stderr();
+    let Ok(mut out) = BufWriter::new(alloc, standard_output(rt)) else {
+        return no_memory(&mut faults);
+    };
+    let name = asked.file;
+    if name == "-" {
+        return print_orders(
+            alloc,
+            wanted(asked),
+            name,
+            &mut rt.reader(),
+            &mut out,
+            &mut faults,
+        );
+    }
+    match File::open(rt, name) {
+        Ok(mut input) => print_orders(
+            alloc,
+            wanted(asked),
+            name,
+            &mut input,
+            &mut out,
+            &mut faults,
+        ),
+        Err(error) if error.kind() == ErrorKind::OutOfMemory => no_memory(&mut faults),
+        Err(error) => cannot_open(rt, name, &error),
+    }
+}
+
 /// Drives a server, and gives the exit status.
 pub fn run_drive_task(rt: &HostRuntime, asked: DriveTask<'_>) -> u8
     ensures statuses { IsOffer asked.entry.offer.now → Contains drive_statuses result }
@@ -651,6 +727,9 @@ pub fn run_drive_task(rt: &HostRuntime, asked: DriveTask<'_>) -> u8
     if !is_offer(asked.offer.as_bytes()) {
         let _ = eprintln!(rt; "error: --offer takes 1 to 8 lower-case hex digits");
         return 2;
+    }
+    if asked.is_orders {
+        return print_orders_of(rt, asked);
     }
     let task = Task {
         name: asked.file,

@@ -31,6 +31,9 @@ returns c =
     let drawn = draws.0 ∙ ap (λ (a : App). with_rule (with_rule (with_rule (with_rule a (flag (codes "random")))
     (flag (codes "any"))) (number (codes "seed") 0 last_node (codes "1")))
     (number (codes "events") 0 last_node (codes "400"))) found in
+    let orders = c.in_ok-with_orders.ensures draws.1 in
+    let ordered = orders.0 ∙ ap (λ (a : App). with_rule (with_rule (with_rule a (flag (codes "orders")))
+    (flag (codes "number"))) (number (codes "nth") 0 last_node (codes "0"))) drawn in
     IfOk-weaker c.with_places.result _ _ (λ both h.
-    let placed = h draws.1 in
-    (placed.0 ∙ ap (λ (a : App). with_rule (with_rule a (needed (codes "FILE"))) (new_rule (codes "SOCK"))) drawn, placed.1)) c.with_places.ensures
+    let placed = h orders.1 in
+    (placed.0 ∙ ap (λ (a : App). with_rule (with_rule a (needed (codes "FILE"))) (new_rule (codes "SOCK"))) ordered, placed.1)) c.with_places.ensures

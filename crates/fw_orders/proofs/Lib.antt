@@ -1,0 +1,4 @@
+pub mod Followed
+pub mod Hexes
+pub mod ReadOutcomes
+pub mod Steps

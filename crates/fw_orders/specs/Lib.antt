@@ -1,0 +1,5 @@
+pub mod Attempts
+pub mod Following
+pub mod Places
+pub mod Printed
+pub mod Saying

@@ -1,0 +1,3 @@
+pub mod Printing
+pub mod Assembling
+pub mod Answering

@@ -1,0 +1,107 @@
+#!/usr/bin/env python3
+"""Runs a FUSE server through every order of the messages of some calls, and prints the first order that goes wrong.
+
+    orders.py [OPTIONS] SERVER-WORDS .. -- FILE
+
+FILE has the calls, as `fuseworld drive --orders` reads them. The server is started anew for each order. It listens at the
+Unix stream socket whose path stands in the place of the word SOCK; or it has /dev/fd/N in the place of the word MOUNT, by
+examples/drive/launcher.c, which -l names once it is built.
+
+An order goes wrong where `drive` says what the server did wrong, or the judge of sessions does, or where the run does not come
+to its end; with --beside also where an answer is another than that of `fuseworld serve` at the same order. The status is 1 then,
+and 0 where none does.
+"""
+import argparse
+import re
+import subprocess
+import sys
+import tempfile
+from pathlib import Path
+
+from shrink import WRONG, differing, over_launcher, over_socket
+
+HEAD = re.compile(r"# order (\d+)$")
+ALL_RUN = (0, 6)
+
+
+def parsed():
+    parser = argparse.ArgumentParser(description=__doc__.splitlines()[0], usage="orders.py [OPTIONS] SERVER-WORDS .. -- FILE")
+    parser.add_argument("-p", "--program", default="fuseworld", help="the program, if not fuseworld")
+    parser.add_argument("-l", "--launcher", default="launcher", help="the launcher, for a server that takes MOUNT")
+    parser.add_argument("-o", "--option", action="append", default=[], help="an option of drive, as -o=--no-opendir; may come again")
+    parser.add_argument("-b", "--before", help="a command of the shell that goes before each order, as to empty a folder")
+    parser.add_argument("-B", "--beside", action="store_true", help="compare the answers with those of `fuseworld serve` too")
+    parser.add_argument("-w", "--wait", type=int, default=2000, help="for how many milliseconds a reply is waited for")
+    parser.add_argument("-m", "--most", type=int, default=0, help="how many orders are run at most; 0 for all")
+    parser.add_argument("server", nargs=argparse.REMAINDER, metavar="SERVER-WORDS")
+    words = sys.argv[1:]
+    if "--" not in words or len(words) - words.index("--") != 2:
+        parser.error("-- and the file come last")
+    asked = parser.parse_args(words[:words.index("--")])
+    asked.file = words[-1]
+    return asked
+
+
+def orders(asked):
+    """The orders as `drive --orders` prints them: the number of each, and its script. Ends the program where it fails."""
+    printing = subprocess.Popen([asked.program, "drive", "--orders", asked.file], stdout=subprocess.PIPE, text=True)
+    number, script = None, []
+    try:
+        for line in printing.stdout:
+            if head := HEAD.match(line):
+                if number is not None:
+                    yield number, script
+                number, script = int(head[1]), []
+            else:
+                script.append(line)
+        if printing.wait() != 0:
+            sys.exit(printing.returncode)
+        if number is not None:
+            yield number, script
+    finally:
+        printing.stdout.close()
+        printing.terminate()
+        printing.wait()
+
+
+def driven(asked, script, server):
+    """How `drive` before a server ends at an order."""
+    drive = [asked.program, "drive", "--check", *asked.option]
+    asked = argparse.Namespace(**{**vars(asked), "server": server})
+    with tempfile.TemporaryDirectory() as name:
+        folder = Path(name)
+        (folder / "script").write_text("".join(script))
+        ran = (over_socket if "SOCK" in server else over_launcher)(asked, drive, folder)
+    if ran.returncode in (1, 2):
+        sys.exit(ran.stderr or ran.stdout)
+    return ran
+
+
+def found_at(asked, script):
+    """Whether the server goes wrong at an order, and the lines of what is said."""
+    if asked.before:
+        subprocess.run(asked.before, shell=True, check=True)
+    ran = driven(asked, script, asked.server)
+    lines = (ran.stdout + ran.stderr).splitlines()
+    if asked.beside:
+        lines += differing(lines, driven(asked, script, [asked.program, "serve", "--found", "0", "SOCK"]).stdout.splitlines())
+    return ran.returncode not in ALL_RUN or any(WRONG.match(line) for line in lines), lines
+
+
+def main():
+    asked = parsed()
+    run = wrong = 0
+    for number, script in orders(asked):
+        run += 1
+        is_wrong, lines = found_at(asked, script)
+        if is_wrong and not wrong:
+            print("".join([f"# order {number}\n", *script, *(f"# {line}\n" for line in lines)]), end="", flush=True)
+        wrong += is_wrong
+        if run == asked.most:
+            break
+    print(f"{run} orders, {wrong} wrong")
+    return 1 if wrong else 0
+
+
+if __name__ == "__main__":
+    sys.exit(main())
