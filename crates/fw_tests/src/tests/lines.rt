@@ -170,36 +170,28 @@ fn passes_over_notes_and_empty_lines(rt: HostRuntime) -> Result<(), Fail> {
     Ok(())
 }
 
-/// What is left of the parts that are wanted behind one, if that is the first.
-fn left_behind<'a>(wanted: &'a [&'a [u8]], part: &[u8]) -> Option<&'a [&'a [u8]]> {
-    match wanted.split_first() {
-        Some((first, rest)) if *first == part => Some(rest),
-        _ => None,
-    }
-}
-
 /// Whether a script has these lines.
 fn are_lines(script: &[u8], wanted: &[&[u8]]) -> bool {
-    let mut rest = wanted;
+    let mut count: usize = 0;
     for line in Lines::of(script) {
-        match left_behind(rest, line) {
-            Some(left) => rest = left,
-            None => return false,
+        match wanted.get(count) {
+            Some(part) if *part == line => count = count.saturating_add(1),
+            _ => return false,
         }
     }
-    rest.is_empty()
+    count == wanted.len()
 }
 
 /// Whether these words are left.
 fn are_words(text: Option<&[u8]>, wanted: &[&[u8]]) -> bool {
-    let mut rest = wanted;
+    let mut count: usize = 0;
     for word in Words::left(text) {
-        match left_behind(rest, word) {
-            Some(left) => rest = left,
-            None => return false,
+        match wanted.get(count) {
+            Some(part) if *part == word => count = count.saturating_add(1),
+            _ => return false,
         }
     }
-    rest.is_empty()
+    count == wanted.len()
 }
 
 #[test]

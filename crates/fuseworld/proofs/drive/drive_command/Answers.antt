@@ -27,7 +27,7 @@ returns c =
     let findings = c.in_ok-with_findings.ensures all.1 in
     let found = findings.0 ∙ ap (λ (a : App). with_rule (with_rule (with_rule a (flag (codes "check")))
     (flag (codes "report-only"))) (option_or_none (codes "capture"))) all.0 in
-    let draws = c.in_ok-with_draws.ensures findings.1 in
+    let draws = c.in_ok-command-2.ensures findings.1 in
     let drawn = draws.0 ∙ ap (λ (a : App). with_rule (with_rule (with_rule (with_rule a (flag (codes "random")))
     (flag (codes "any"))) (number (codes "seed") 0 last_node (codes "1")))
     (number (codes "events") 0 last_node (codes "400"))) found in
