@@ -172,5 +172,6 @@ test:
 		if [ $$status = 0 ]; then python3 tests/check_commands.py; status=$$?; fi; \
 		if [ $$status = 0 ]; then python3 tests/serve_frames.py; status=$$?; fi; \
 		if [ $$status = 0 ]; then python3 tests/run_drive.py; status=$$?; fi; \
+		if [ $$status = 0 ]; then python3 tests/orders.py; status=$$?; fi; \
 		if [ $$status = 0 ]; then sh tests/real_mount.sh; status=$$?; fi; \
 		tail -n 1 "$$log"; rm -f "$$log"; exit $$status

@@ -605,6 +605,33 @@ def run_check():
     judge("no file", (lines, status), (["cannot write /nowhere/capture: No such file or directory (os error 2)"], 1))
 
 
+# --- calls that have names
+
+def run_names():
+    """A name stands for the number of its call: what is printed is that of the script with numbers."""
+    numbered = CALLS
+    named = ["call mkdir /d as made", "call create /d/f as F2", "call write F2 0 6869 as w", "call stat /d/f", "call close F2", *CALLS[5:7],
+             "# call create /h as F2", "call create /g as F2", "call close F2", *CALLS[9:]]
+    judge("names", on_server(["--calls"], named)[:2], on_server(["--calls"], numbered)[:2])
+    # A refused call has no number, and its name stands for 0.
+    refused = ["call stat / as early", *MOUNT, "call stat / as late", "intr early soft", "intr late fatal"]
+    judge("the name of a refused call", on_frames([], refused, AGREES),
+          (["refused 4 NotReady", *MOUNTED, "call 1", "refused 2 NoSuch", "interrupted 1 dequeued", "answer 1 4", "kernel"], 0))
+    judge("as as a path", on_frames(["--calls"], ["call rename as x", "call stat as"], AGREES),
+          (["mounted", "call 1", "answer 1 22", "call 2", "answer 2 22", "kernel"], 0))
+    for name, script, said in [("an unknown name", ["call stat /", "call close F"], "line 2: bad number"),
+                               ("a name that comes later", ["call close F", "call create /f as F"], "line 1: bad number"),
+                               ("a bad line between names", ["call create /f as F", "# F", "call close F F"], "line 3: wrong words"),
+                               ("a name of digits", ["call create /f as 2"], "line 1: wrong words")]:
+        judge(name, drive(["--calls"], script, answering(AGREES)), ([said], 1, None))
+    with served([], ["unread"], Server().serve) as (command, gave):
+        lines = "\n".join([*MOUNT, "call create /f as F", "read p 0", "write", "call read F 0 1", "read p 0", "write", "call close G"])
+        run = subprocess.run([*command[:2], "-", command[3]], input=lines, capture_output=True, text=True, timeout=SECONDS)
+    judge("- names", (run.stdout.splitlines(), run.stderr, run.returncode), (
+        [*MOUNTED, "call 1", "read 4 CREATE 58", "written 4 0", "answer 1 0", "call 2", "read 6 READ 80", "written 6 0", "answer 2 0 -"],
+        "line 10: bad number\n", 1))
+
+
 # --- lines as JSON objects
 
 def run_json():
@@ -659,7 +686,7 @@ def run_random():
     judge("a seed: a bug is found", (status, any(FAULTS.search(line) for line in lines)), (6, True))
 
 
-for part in (run_bugs, run_otherwise, run_fields, run_frames, run_abort, run_closings, run_agreements, run_opendir, run_opendir_bugs, run_releasedir, run_many, run_talking, run_refusals, run_waits, run_words, run_input, run_packets, run_trace, run_check, run_json, run_random):
+for part in (run_bugs, run_otherwise, run_fields, run_frames, run_abort, run_closings, run_agreements, run_opendir, run_opendir_bugs, run_releasedir, run_many, run_talking, run_refusals, run_waits, run_words, run_input, run_packets, run_trace, run_check, run_names, run_json, run_random):
     part()
 print(f"{judging.passed} passed, {judging.failed} failed")
 sys.exit(bool(judging.failed))
