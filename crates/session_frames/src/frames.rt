@@ -45,6 +45,7 @@ pub fn reply_number(transfer: Transfer<'_>) -> u64
 
 /// The acts of a transfer whose frames can be read, by what waits under its number. Returns what is known after it,
 /// where that is new.
+#[inline(always)]
 fn write_read_transfer<A: Allocator + Copy>(
     acts: &mut Vec<Act, A>,
     known: &Known,
