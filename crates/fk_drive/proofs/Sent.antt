@@ -1,9 +1,10 @@
 -- What sending a request results in.
-use Rattle.std.proofs.Common.{◌≡◌, ◌∙◌, ℕ, List, [], ◌++◌, None, refl, sym, ap, subst}
+use Rattle.std.proofs.Common.{◌≡◌, ◌∙◌, ℕ, List, [], ◌++◌, None, refl, sym, ap, subst, false}
 use Rattle.std.specs.Prelude.{ℤ, Result, Ok, Err, IfErr, OnErr, OnOk}
 use Rattle.fuse_spec.specs.declared.Refusal.{Refusal}
 use Rattle.fuse_spec.specs.declared.WriteResult.{WriteResult}
 use Rattle.fuse_spec.specs.declared.WriteResult.TheVariants.{Invalid, NoEntry}
+use Rattle.fuse_spec.specs.Kernel.Refusals.{is_kernel_past_end}
 use Rattle.fuse_spec.specs.Kernel.Kernel.{Kernel}
 use Rattle.fuse_spec.specs.Kernel.Messages.{Request}
 use Rattle.fk_wire.specs.Replies.{WrittenReply, empty_reply}
@@ -143,9 +144,10 @@ pub taken_of : (old : Kernel) (bytes : List ℕ) (written : WriteResult) (new : 
     → (HasReplyHead bytes → awaited old (head_unique bytes) ≡ nothing
     → (◌≡◌ {A = Result WriteResult Refusal} (Ok written) (Ok NoEntry)) × (new ≡ old))
     → (HasReplyHead bytes → IsReplyWritten old (head_unique bytes) bytes (awaited old (head_unique bytes)) written new)
-    → IsReplyTaken old bytes written new
-taken_of old bytes written new headless unawaited taken = record {
+    → is_kernel_past_end new ≡ false → IsReplyTaken old bytes written new
+taken_of old bytes written new headless unawaited taken within = record {
   headless = λ none. let (is, same) = headless none in (cc is, same);
   unawaited = λ head none. let (is, same) = unawaited head none in (cc is, same);
   taken = taken;
+  within = within;
 }

@@ -1,5 +1,5 @@
 -- What the kernel makes of bytes that are written to it, and what it does without its server.
-use Rattle.std.specs.Prelude.{◌≡◌, ℕ, Bool, List, Some, None}
+use Rattle.std.specs.Prelude.{◌≡◌, ℕ, Bool, false, List, Some, None}
 use Rattle.fuse_spec.specs.declared.Counted.{Counted}
 use Rattle.fuse_spec.specs.declared.IntrEffect.{IntrEffect}
 use Rattle.fuse_spec.specs.declared.WriteResult.{WriteResult}
@@ -8,6 +8,7 @@ use Rattle.fuse_spec.specs.Calls.Calls.{Call}
 use Rattle.fuse_spec.specs.Calls.Paths.{Name}
 use Rattle.fuse_spec.specs.Calls.Vfs.{later}
 use Rattle.fuse_spec.specs.Kernel.Kernel.{Kernel, call_put, evicted, kernel_aborted, kernel_mounted}
+use Rattle.fuse_spec.specs.Kernel.Refusals.{is_kernel_past_end}
 use Rattle.fuse_spec.specs.Values.Maps.{get, remove, remove_name}
 use Rattle.fk_kernel.specs.AwaitedReplies.{HasReplyHead, IsReplyWritten, awaited, head_unique, nothing}
 use Rattle.fk_kernel.specs.Refused.{IsSignalled, abort_refusal, begin_refusal, drop_refusal, evict_refusal, mount_refusal, signal_refusal, tick_refusal}
@@ -18,6 +19,8 @@ pub record IsReplyTaken (old : Kernel) (bytes : List ℕ) (result : WriteResult)
   pub unawaited : HasReplyHead bytes → awaited old (head_unique bytes) ≡ nothing → (result ≡ NoEntry) × (new ≡ old)
   pub taken : HasReplyHead bytes
       → IsReplyWritten old (head_unique bytes) bytes (awaited old (head_unique bytes)) result new
+  -- no counter is past its end
+  pub within : is_kernel_past_end new ≡ false
 
 -- What happens to the kernel without its server, each as the kernel's definitions have it.
 pub data ActsAlone (old : Kernel) : Kernel → Type 0 where

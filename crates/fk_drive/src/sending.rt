@@ -116,7 +116,9 @@ fn answer<Q: QueueTable<Purpose> + Drop, C: CountTable<Heap = Q::Heap> + Drop>(
     ensures err { IfErr result (IsAnswerRefusedAs kernel.old unique error) }
     ensures same { OnErr result (kernel.new ≡ kernel.old) }
 {
-    match kernel.write(&frame_of_error(unique, error)) {
+    let written = kernel.write(&frame_of_error(unique, error));
+    kernel.lemma_in_range();
+    match written {
         Ok(_result) => Ok(()),
         Err(refusal) => Err(DriveEnd::Refused(refusal)),
     }

@@ -51,9 +51,13 @@ fn hand_on<Q: QueueTable<Purpose> + Drop, C: CountTable<Heap = Q::Heap> + Drop>(
     ensures refused { IfErr result (IsWriteRefused kernel.old frame.now) }
 {
     if is_older_agreement(frame) {
-        return kernel.write(&raised_of(frame));
+        let written = kernel.write(&raised_of(frame));
+        kernel.lemma_in_range();
+        return written;
     }
-    kernel.write(frame)
+    let written = kernel.write(frame);
+    kernel.lemma_in_range();
+    written
 }
 
 /// Receives frames until one waits for the kernel.

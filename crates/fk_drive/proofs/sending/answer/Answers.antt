@@ -13,8 +13,8 @@ returns-in-Ok-clause-ok g c =
       written,
       subst (λ (e : ℤ). WrittenReply (record { unique = c.args.unique; error = e; content = empty_reply }) bytes)
           (same_error c.args.error c.requires) c.frame_of_error.ensures,
-      taken_of c.args.kernel.now bytes written c.write.new.self c.in-Ok.ensures.headless c.in-Ok.ensures.unawaited
-          c.in-Ok.ensures.taken,
+      taken_of c.args.kernel.now bytes written c.write-written.new.self c.in-Ok.ensures.headless c.in-Ok.ensures.unawaited
+          c.in-Ok.ensures.taken c.lemma_in_range.ensures,
     )
 
 pub returns-in-Err-clause-err : goal.returns-in-Err-clause-err
