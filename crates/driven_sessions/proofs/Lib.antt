@@ -28,3 +28,4 @@ mod Stages
 mod Late
 mod WriteSizes
 mod Large
+pub mod Rules

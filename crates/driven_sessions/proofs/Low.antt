@@ -1,5 +1,4 @@
--- No request of a run has a number with the highest bit, but INTERRUPTs, while the kernel's numbers last: so none is one
--- that is read once more.
+-- No request of a run has a number with the highest bit, but INTERRUPTs: so none is one that is read once more.
 use Rattle.std.proofs.Common.{◌≡◌, ℕ, ◌+◌, ◌≤◌, ◌<◌, ◌%◌, ◌^◌, Bool, true, false, cond, List, [], ◌∷◌, Option, Some, None, drop, nat_eq, option_map, slice_get, refl, ap, sym, subst, ◌∙◌, arith}
 use Rattle.std.specs.Option.{option_map_or}
 use Rattle.std.proofs.lemmas.Bool.{false≢true}
@@ -24,7 +23,7 @@ use Rattle.fuse_sessions.specs.declared.fault.Fault.TheVariants as fault
 use Rattle.fuse_sessions.specs.Faults.{Breaks, BreaksForget, BreaksInterrupt, BreaksNumber}
 use Rattle.fuse_sessions.specs.Sessions.{Session}
 use Rattle.fuse_sessions.specs.UnreadRequests.{opcode_in, unique_in}
-use Rattle.driven_sessions.specs.Driven.{HasNumbers, NeverAccusedWithNumbers}
+use Rattle.driven_sessions.specs.Driven.{NeverAccused}
 use Rattle.driven_sessions.specs.Groups.{is_of_resends}
 use Rattle.driven_sessions.specs.Transfers.{AllSent}
 use Rattle.driven_sessions.proofs.Calm.{calm_law, is_of_numbers}
@@ -94,12 +93,12 @@ module _ (asks : Bool) where
   run_numbered log new (behind before mid run last end step) =
       step_numbered mid last end step (run_tallied 2 (omega arith) asks before mid run).empty (run_numbered before mid run)
 
-  were_low : (log : List Transfer) (new : Driven) (run : Drives (first_driven asks) log new) → HasNumbers run
+  were_low : (log : List Transfer) (new : Driven) (run : Drives (first_driven asks) log new)
       → Were IsLow run
-  were_low log new nothing few = tt
-  were_low log new (behind before mid run last end step) few = (
-    were_low before mid run few.0,
-    is_low mid.kernel (run_within asks before mid run few.0) (run_tallied 2 (omega arith) asks before mid run).empty
+  were_low log new nothing = tt
+  were_low log new (behind before mid run last end step) = (
+    were_low before mid run,
+    is_low mid.kernel (run_within asks before mid run) (run_tallied 2 (omega arith) asks before mid run).empty
         (run_numbered before mid run),
   )
 
@@ -148,10 +147,10 @@ own_low : (frame : List ℕ) (unique : ℕ) → unique % 2 ≡ 0 → unique < 2 
 own_low frame unique even low own none =
     let same = (own_head frame unique low own).1 in omega (arith, low, same)
 
-run_low : (asks : Bool) (log : List Transfer) (new : Driven) (run : Drives (first_driven asks) log new) → HasNumbers run
+run_low : (asks : Bool) (log : List Transfer) (new : Driven) (run : Drives (first_driven asks) log new)
     → AllSent IsLowFrame log
-run_low asks log new run few = (run_sends_where IsLowRequest IsLowFrame IsLow picked_low low_sent own_low asks log new run
-    (were_low asks log new run few)).0
+run_low asks log new run = (run_sends_where IsLowRequest IsLowFrame IsLow picked_low low_sent own_low asks log new run
+    (were_low asks log new run)).0
 
 -- ---- the group
 
@@ -191,6 +190,6 @@ low_shown : ShowsNoneAmong is_of_resends IsLowFrame
 low_shown agreed frame s acts several low does = plain_free false is_of_resends none_again s acts several
     (does_plain false agreed frame acts (λ high other. let below = low other in absurd (omega (arith, high, below))) does)
 
-pub resends_never : NeverAccusedWithNumbers is_of_resends
-resends_never asks log new run few =
-    among_free is_of_resends resends_within IsLowFrame low_shown log (run_low asks log new run few)
+pub resends_never : NeverAccused is_of_resends
+resends_never asks log new run =
+    among_free is_of_resends resends_within IsLowFrame low_shown log (run_low asks log new run)

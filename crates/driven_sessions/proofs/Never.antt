@@ -29,7 +29,7 @@ use Rattle.fk_drive.specs.Driving.{Driven, Drives, first_driven, next, nothing a
 use Rattle.fk_drive_theorem.specs.TakenOnce.{mounts_at, mounts_in}
 use Rattle.fk_drive_theorem.proofs.OneEach.{run_one}
 use Rattle.fk_drive_theorem.proofs.RunsTally.{run_tallied}
-use Rattle.driven_sessions.specs.Driven.{HasNumbers, NeverAccusedInOneMount}
+use Rattle.driven_sessions.specs.Driven.{NeverAccusedMountedOnce}
 use Rattle.driven_sessions.specs.Groups.{is_of_used_numbers}
 use Rattle.driven_sessions.specs.Transfers.{AreSaid}
 use Rattle.driven_sessions.proofs.Calm.{AreCalm, is_of_numbers, written_calm}
@@ -233,18 +233,18 @@ first_keeps asks s none = record {
 module _ (asks : Bool) (k : Known) (s : Session) (free : AreFree is_of_readings [] s)
     (none : (u : ℕ) → was_read s u ≡ false) where
   pub run_on : (log : List Transfer) (new : Driven) (run : Drives (first_driven asks) log new) → mounts_in run ≤ 1
-      → HasNumbers run → (ts : List Said) → AreSaid log ts → (later : Known) (all : Session) → Lead k s ts later all
+      → (ts : List Said) → AreSaid log ts → (later : Known) (all : Session) → Lead k s ts later all
       → Runs (mounts_in run) new all
-  run_on log new none_yet one few [] is later all leads =
+  run_on log new none_yet one [] is later all leads =
       subst (Runs 0 (first_driven asks)) (sym leads.1) (record { keeps = first_keeps asks s none; free = free })
-  run_on log new none_yet one few (t ∷ ts) is later all leads = absurd is
-  run_on log new (next before mid run last end step) one few ts is later all leads =
+  run_on log new none_yet one (t ∷ ts) is later all leads = absurd is
+  run_on log new (next before mid run last end step) one ts is later all leads =
       let parts = said_parts before last ts is in
       let led = lead_parts k s parts.first parts.last later all (subst (λ (l : List Said). Lead k s l later all) parts.all leads) in
-      let was = run_on before mid run (omega (arith, one)) few.0 parts.first parts.said led.known led.session led.before in
+      let was = run_on before mid run (omega (arith, one)) parts.first parts.said led.known led.session led.before in
       by led.session all (mounts_at step) refl (λ still. step_goes (mounts_in run) led.session mid last end step still
       (run_tallied 2 (omega arith) asks before mid run).empty (run_one asks before mid run)
-      (run_within asks before mid run few.0) (run_within asks (before ++ last) end (next before mid run last end step) few)
+      (run_within asks before mid run) (run_within asks (before ++ last) end (next before mid run last end step))
       was.keeps) (λ mounts zero. mount_goes led.session mid last end step mounts
       (subst (λ (n : ℕ). Keeps n mid led.session) zero was.keeps))
       (λ n goes. goes_on n end led.known led.session was.free last goes parts.last parts.said_more later all led.behind)
@@ -256,15 +256,15 @@ module _ (asks : Bool) (k : Known) (s : Session) (free : AreFree is_of_readings 
       by S A (suc n) e stays mounts on = subst (λ (n : ℕ). Runs n end A) (omega (arith, e, one))
           (on 1 (mounts (omega (arith, e, one)) (omega (arith, e, one))))
 
-readings_never : (group : Fault → Bool) → ((f : Fault) → group f ≡ true → is_of_readings f ≡ true) → NeverAccusedInOneMount group
-readings_never group within asks log new run one few s (ts, is, k, (acts, known, are, leads)) place f has of =
+readings_never : (group : Fault → Bool) → ((f : Fault) → group f ≡ true → is_of_readings f ≡ true) → NeverAccusedMountedOnce group
+readings_never group within asks log new run one s (ts, is, k, (acts, known, are, leads)) place f has of =
     let first : acts ≡ act.SeveralReaders ∷ [] = are.0 in
     let runs = run_on asks known acts (subst (AreFree is_of_readings []) (sym first)
     (calm_free is_of_readings readings_within [] (act.SeveralReaders ∷ []) refl))
-    (λ u. ap (λ (l : List Act). was_read l u) first) log new run one few ts is k s leads in
+    (λ u. ap (λ (l : List Act). was_read l u) first) log new run one ts is k s leads in
     never_at is_of_readings [] s runs.free place f has (within f of)
 
-pub used_numbers_never : NeverAccusedInOneMount is_of_used_numbers
+pub used_numbers_never : NeverAccusedMountedOnce is_of_used_numbers
 used_numbers_never = readings_never is_of_used_numbers within
   where
     within : (f : Fault) → is_of_used_numbers f ≡ true → is_of_readings f ≡ true

@@ -1,4 +1,4 @@
--- The kernel's coming number never passes its limit, where no reply has it pass: whatever else would is refused.
+-- The kernel's coming number never passes its limit: what would have it pass is refused.
 use Rattle.std.proofs.Common.{◌≡◌, ℕ, ◌≤◌, ◌^◌, Bool, true, false, not, List, Option, Some, None, Result, nat_eq, nat_le, length, slice_get, refl, subst, arith}
 use Rattle.std.specs.Option.{option_map_or}
 use Rattle.fuse_spec.specs.declared.IntrEffect.{IntrEffect}
@@ -25,11 +25,13 @@ use Rattle.fk_kernel.specs.declared.pick.Pick.TheVariants.{Interrupt, Forgets, P
 use Rattle.fk_kernel.proofs.Phases.{within_ends}
 use Rattle.fk_drive.specs.Driving.{Driven, DriveStep, Drives, first_driven, alone, reads, answers, writes, nothing, next as behind}
 use Rattle.fk_drive.specs.KernelSteps.{ActsAlone, mounts, begins, is_signalled, ticks, drops_name, evicts, aborts, gives_answer}
-use Rattle.driven_sessions.specs.Driven.{HasNumbers, LeavesNumbers}
 use Rattle.driven_sessions.proofs.Numbers.{Entry}
 
 abbrev IsWithin : Kernel → Type 0
 IsWithin k = k.queues.next ≤ 2 ^ 62
+
+taken_within : (k : Kernel) → is_kernel_past_end k ≡ false → IsWithin k
+taken_within k within = (within_ends k.queues.next k.vfs.next_call within).0
 
 -- What counters would refuse, and do not, keeps within them.
 within : (k : Kernel) → refusal_in (within_counters k) ≡ None → IsWithin k
@@ -100,16 +102,16 @@ alone_within old new (evicts node counted may there) was = was
 alone_within old new (aborts may) was = omega arith
 alone_within old new (gives_answer call) was = was
 
-step_within : (old : Driven) (log : List Transfer) (new : Driven) (step : DriveStep old log new) → LeavesNumbers step
-    → IsWithin old.kernel → IsWithin new.kernel
-step_within old log new (alone k acts) few was = alone_within old.kernel k acts was
-step_within old log new (reads idle pick may request is) few was = picked_within old.kernel pick may was
-step_within old log new (answers request error turn bytes written result k taken) few was = few
-step_within old log new (writes idles frame rest there handed on result k taken log' coming left turn release) few was = few
-step_within old log new step few was = was
+step_within : (old : Driven) (log : List Transfer) (new : Driven) → DriveStep old log new → IsWithin old.kernel
+    → IsWithin new.kernel
+step_within old log new (alone k acts) was = alone_within old.kernel k acts was
+step_within old log new (reads idle pick may request is) was = picked_within old.kernel pick may was
+step_within old log new (answers request error turn bytes written result k taken) was = taken_within k taken.within
+step_within old log new (writes idles frame rest there handed on result k taken log' coming left turn release) was =
+    taken_within k taken.within
+step_within old log new step was = was
 
-pub run_within : (asks : Bool) (log : List Transfer) (new : Driven) (run : Drives (first_driven asks) log new)
-    → HasNumbers run → new.kernel.queues.next ≤ 2 ^ 62
-run_within asks log new nothing few = omega arith
-run_within asks log new (behind before mid run last end step) few =
-    step_within mid last end step few.1 (run_within asks before mid run few.0)
+pub run_within : (asks : Bool) (log : List Transfer) (new : Driven) → Drives (first_driven asks) log new
+    → new.kernel.queues.next ≤ 2 ^ 62
+run_within asks log new nothing = omega arith
+run_within asks log new (behind before mid run last end step) = step_within mid last end step (run_within asks before mid run)

@@ -1,8 +1,7 @@
 -- A kernel that keeps the rules is never accused: of what `drive` sends the definitions of sessions have no fault.
 use Rattle.std.specs.Prelude.{◌≡◌, ◌≤◌, ℕ, Bool, true, List, [], ◌∷◌, ◌++◌}
-use Rattle.fuse_spec.specs.Kernel.Uniques.{number_limit}
 use Rattle.fuse_device.specs.Transfers.{Transfer}
-use Rattle.fk_drive.specs.Driving.{Driven, DriveStep, Drives, answers, first_driven, next, nothing, writes}
+use Rattle.fk_drive.specs.Driving.{Driven, Drives, first_driven}
 use Rattle.fk_drive_theorem.specs.TakenOnce.{mounts_in}
 use Rattle.fuse_protocol.specs.declared.agreed.Agreed.{Agreed}
 use Rattle.protocol_law.specs.Law.{Carries}
@@ -18,18 +17,6 @@ use Rattle.driven_sessions.specs.Transfers.{AreSaid}
 -- The kernel mounts once at most. A second mount over one connection begins again at the first number.
 abbrev pub IsOneMount : {old : Driven} {log : List Transfer} {new : Driven} → Drives old log new → Type 0
 IsOneMount run = mounts_in run ≤ 1
-
--- No reply that the kernel takes has its coming number pass its limit, as none has that of a kernel of `fk_kernel`.
-abbrev pub LeavesNumbers : {old : Driven} {log : List Transfer} {new : Driven} → DriveStep old log new → Type 0
-LeavesNumbers (answers request error turn bytes written result k taken) = k.queues.next ≤ number_limit
-LeavesNumbers (writes idles frame rest there handed on result k taken log coming left turn release) =
-    k.queues.next ≤ number_limit
-LeavesNumbers step = Unit {0}
-
--- None in a run does. Whatever else would is refused, so the number never passes: above are OPENDIR's.
-abbrev pub HasNumbers : {old : Driven} {log : List Transfer} {new : Driven} → Drives old log new → Type 0
-HasNumbers nothing = Unit {0}
-HasNumbers (next before mid run log new step) = HasNumbers run × LeavesNumbers step
 
 -- These are the transfers of a session of what went over a device. First it is said that requests may be out of order, as
 -- where several threads read: OPENDIR has higher numbers than the kernel's next requests.
@@ -54,16 +41,6 @@ abbrev pub NeverAccusedMountedOnce : (Fault → Bool) → Type 0
 NeverAccusedMountedOnce group = (asks : Bool) (log : List Transfer) (new : Driven) (run : Drives (first_driven asks) log new)
     → IsOneMount run → IsFreeOf group log
 
--- And whose numbers are not used up.
-abbrev pub NeverAccusedInOneMount : (Fault → Bool) → Type 0
-NeverAccusedInOneMount group = (asks : Bool) (log : List Transfer) (new : Driven) (run : Drives (first_driven asks) log new)
-    → IsOneMount run → HasNumbers run → IsFreeOf group log
-
--- Of one whose numbers are not used up, however often it mounts.
-abbrev pub NeverAccusedWithNumbers : (Fault → Bool) → Type 0
-NeverAccusedWithNumbers group = (asks : Bool) (log : List Transfer) (new : Driven) (run : Drives (first_driven asks) log new)
-    → HasNumbers run → IsFreeOf group log
-
 -- What was agreed on before each of these transfers is such.
 abbrev pub HaveAgreed : (Agreed → Type 0) → (k : Known) (s : Session) (ts : List Said) (later : Known) (all : Session)
     → Lead k s ts later all → Type 0
@@ -71,8 +48,12 @@ HaveAgreed IsSuch k s [] later all leads = Unit {0}
 HaveAgreed IsSuch k s (t ∷ ts) later all (acts, known, are, leads) =
     IsSuch k.agreed × HaveAgreed IsSuch known (s ++ acts) ts later all leads
 
--- A kernel is never accused of a group of faults, where each agreement of the session carries the codec's frames.
+-- What went over a device shows none of a group of faults, where each agreement of the session carries the codec's frames.
+abbrev pub IsFreeWhereCarried : (Fault → Bool) → List Transfer → Type 0
+IsFreeWhereCarried group log = (ts : List Said) → AreSaid log ts → (k : Known) (s : Session)
+    (is : IsSession (said.SeveralReaders ∷ ts) k s) → HaveAgreed Carries nothing_known [] (said.SeveralReaders ∷ ts) k s is
+    → ShowsNone group s
+
 abbrev pub NeverAccusedWhereCarried : (Fault → Bool) → Type 0
 NeverAccusedWhereCarried group = (asks : Bool) (log : List Transfer) (new : Driven) → Drives (first_driven asks) log new
-    → (ts : List Said) → AreSaid log ts → (k : Known) (s : Session) (is : IsSession (said.SeveralReaders ∷ ts) k s)
-    → HaveAgreed Carries nothing_known [] (said.SeveralReaders ∷ ts) k s is → ShowsNone group s
+    → IsFreeWhereCarried group log

@@ -1,3 +1,4 @@
 pub mod Groups
 pub mod Transfers
 pub mod Driven
+pub mod Rules

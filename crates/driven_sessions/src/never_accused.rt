@@ -4,7 +4,7 @@ ghost use Rattle.std.specs.Prelude.{Bool, List};
 ghost use Rattle.fuse_device.specs.Transfers.{Transfer};
 ghost use Rattle.fk_drive.specs.Driving.{Driven, Drives, first_driven};
 ghost use Rattle.driven_sessions.specs.Transfers.{AllSent, IsShaped};
-ghost use Rattle.driven_sessions.specs.Driven.{NeverAccused, NeverAccusedInOneMount, NeverAccusedMountedOnce, NeverAccusedWhereCarried, NeverAccusedWithNumbers};
+ghost use Rattle.driven_sessions.specs.Driven.{NeverAccused, NeverAccusedMountedOnce, NeverAccusedWhereCarried};
 ghost use Rattle.driven_sessions.specs.Groups.{is_of_empty_forgets, is_of_interrupt_numbers, is_of_large_writes, is_of_late_inits, is_of_odd_numbers, is_of_one_thread, is_of_resends, is_of_shapes, is_of_used_numbers};
 
 /// Each frame that is sent is a request of a row, under each agreement that carries the codec's frames: no extensions, names
@@ -36,7 +36,7 @@ pub fn numbers_are_even()
 /// No request has the number of another, in one mount: those of the kernel rise and stay below 2^62, where those of OPENDIR
 /// and RELEASEDIR begin.
 pub fn numbers_are_used_once()
-    ensures { NeverAccusedInOneMount is_of_used_numbers }
+    ensures { NeverAccusedMountedOnce is_of_used_numbers }
 {}
 
 /// No number is out of order, and no INTERRUPT is of nothing or comes too often, however often the kernel mounts: these are
@@ -45,10 +45,10 @@ pub fn readers_are_several()
     ensures { NeverAccused is_of_one_thread }
 {}
 
-/// No request is one that is read once more, while the kernel's numbers last, however often it mounts: they stay below 2^62,
-/// and those of OPENDIR and RELEASEDIR below 2^63, the bit of such requests.
+/// No request is one that is read once more, however often the kernel mounts: its numbers stay below 2^62, and those of
+/// OPENDIR and RELEASEDIR below 2^63, the bit of such requests.
 pub fn requests_are_not_resent()
-    ensures { NeverAccusedWithNumbers is_of_resends }
+    ensures { NeverAccused is_of_resends }
 {}
 
 /// INIT comes before any other request, in one mount.

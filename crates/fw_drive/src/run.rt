@@ -1,6 +1,7 @@
 //! The run of a script that drives a server.
 
 ghost use Rattle.std.specs.Prelude.{◌≡◌, ◌⊎◌, ◌++◌, ◌∷◌, [], ℕ, Contains, IfErr, IfOk, IfSome, OnErr, OnOk, codes, false};
+ghost use Rattle.driven_sessions.specs.Rules.{KeepsRules};
 ghost use Rattle.fk_drive.specs.Driving.{Driven, DrivesOver, first_driven};
 ghost use Rattle.fw_script.specs.Outputs.{AppendsSome};
 ghost use Rattle.fw_script.specs.Stops.{unreadable};
@@ -195,6 +196,8 @@ pub fn run_drive<A: Allocator + Copy, D: Device, R: Read, W: Write, F: Write>(
     ensures no_memory { result ≡ 3 → AppendsSome (F.contents faults.old) (F.contents faults.new) (codes "no memory\n") }
     ensures no_fault { (result ≡ 0) ⊎ (result ≡ 4) ⊎ (result ≡ 5) ⊎ (result ≡ 6) → faults.new ≡ faults.old }
     ensures drives { (new : Driven) × DrivesOver D.logs device.old device.new (first_driven task.entry.opens_directories) new }
+    // No session of what went over the device shows a fault of the kernel, of those that `KeepsRules` has.
+    ensures rules { KeepsRules D.logs device.old device.new task.entry.opens_directories }
     // The lines of the script are run, in their order, and none is left out at status 0 and 6. What is printed is the
     // text of what they come to. It is 6 exactly where a line of it says that the server was wrong.
     ensures moves { IfSome (R.remaining input.old)

@@ -1,6 +1,7 @@
 //! The run of lines that a source gives one at a time.
 
 ghost use Rattle.std.specs.Prelude.{◌≡◌, ◌⊎◌, ◌∷◌, [], Contains, codes, false};
+ghost use Rattle.driven_sessions.specs.Rules.{KeepsRules};
 ghost use Rattle.fk_drive.specs.Driving.{Driven, DrivesOver, first_driven};
 ghost use Rattle.fw_script.specs.Outputs.{AppendsSome};
 ghost use Rattle.fw_drive.specs.Sources.{RunsAll, RunsSource};
@@ -93,6 +94,8 @@ pub fn run_source<A: Allocator + Copy, D: Device, S: LineSource<W>, W: Write, F:
     ensures no_fault { (result ≡ 0) ⊎ (result ≡ 4) ⊎ (result ≡ 5) ⊎ (result ≡ 6) →
         F.contents faults.new ≡ F.contents faults.old }
     ensures drives { (new : Driven) × DrivesOver D.logs device.old device.new (first_driven task.entry.opens_directories) new }
+    // No session of what went over the device shows a fault of the kernel, of those that `KeepsRules` has.
+    ensures rules { KeepsRules D.logs device.old device.new task.entry.opens_directories }
     // The lines that the source gave are run, in their order, and none is left out. What is printed is the text of what
     // they come to. The status is 6 exactly where all were run and a line of it says that the server was wrong.
     ensures runs { RunsSource A D.logs S.gives S.is_over task.entry.form task.entry.name.now task.entry.opens_directories

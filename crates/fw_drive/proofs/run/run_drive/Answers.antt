@@ -1,4 +1,5 @@
 use Rattle.std.proofs.Common.{[], ℕ, List, inl, inr, refl, subst}
+use Rattle.driven_sessions.proofs.Rules.{keeps_rules}
 use Rattle.fk_drive.specs.Driving.{first_driven, nothing}
 use Rattle.fw_drive.specs.DriveLines.{IsGoodDriveScript}
 use Rattle.fw_drive.specs.Judging.{SaysFirstFault}
@@ -56,3 +57,12 @@ returns-in-Ok-clause-fault g c one =
     (g.F.Write.contents c.run_text.new.faults) in
     inr (rw c.in-Ok.ensures.silent at (of_known HasFault (g.R.Read.remaining c.args.input.now) c.in-Ok.text.items
     c.in-Ok.ensures.ok (subst HasFault c.as_slice.ensures.value (c.run_text.ensures.fault one))))
+
+pub returns-in-Err-clause-rules : goal.returns-in-Err-clause-rules
+returns-in-Err-clause-rules g c =
+    keeps_rules g.D.Device.logs c.args.device.now c.args.device.now c.args.task.opens_directories
+    (returns-in-Err-clause-drives g c)
+
+pub returns-in-Ok-clause-rules : goal.returns-in-Ok-clause-rules
+returns-in-Ok-clause-rules g c =
+    keeps_rules g.D.Device.logs c.args.device.now c.run_text.new.device c.args.task.opens_directories c.run_text.ensures.drives

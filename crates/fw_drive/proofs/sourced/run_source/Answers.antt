@@ -1,4 +1,5 @@
 use Rattle.std.proofs.Common.{[], refl}
+use Rattle.driven_sessions.proofs.Rules.{keeps_rules}
 use Rattle.fw_drive.proofs.SourceRuns.{halt_among, halt_at_3, halt_quiet, runs_drive, source_ended, source_halted}
 use Rattle.fw_drive.proofs.StopStatuses.{end_among, end_not_3}
 use Rattle.fw_drive.proofs.sourced.run_source.Goals as goal
@@ -53,3 +54,13 @@ returns-in-Err-clause-runs g c =
     c.args.source.now c.run_new-ended.new.source (g.W.Write.contents c.args.out.now)
     (g.W.Write.contents c.run_new-ended.new.out, c.run_new-ended.result.1) _ _ _ c.report.result
     c.run_new-ended.result.0 c.in-Err.halt c.in-Err.is c.run_new-ended.ensures c.report.ensures
+
+pub returns-in-Ok-clause-rules : goal.returns-in-Ok-clause-rules
+returns-in-Ok-clause-rules g c =
+    keeps_rules g.D.Device.logs c.args.device.now c.run_new-ended.new.device c.args.task.opens_directories
+    (returns-in-Ok-clause-drives g c)
+
+pub returns-in-Err-clause-rules : goal.returns-in-Err-clause-rules
+returns-in-Err-clause-rules g c =
+    keeps_rules g.D.Device.logs c.args.device.now c.run_new-ended.new.device c.args.task.opens_directories
+    (returns-in-Err-clause-drives g c)

@@ -1,0 +1,32 @@
+-- A kernel that is driven keeps the rules.
+use Rattle.std.proofs.Common.{Bool, List}
+use Rattle.fuse_device.specs.Transfers.{Transfer}
+use Rattle.fk_drive.specs.Driving.{Driven, DrivesOver, first_driven}
+use Rattle.driven_sessions.specs.Rules.{KeepsRules}
+use Rattle.driven_sessions.proofs.Forgotten.{empty_forgets_never}
+use Rattle.driven_sessions.proofs.Large.{large_writes_never}
+use Rattle.driven_sessions.proofs.Late.{late_inits_never}
+use Rattle.driven_sessions.proofs.Low.{resends_never}
+use Rattle.driven_sessions.proofs.Malformed.{shapes_never}
+use Rattle.driven_sessions.proofs.Never.{used_numbers_never}
+use Rattle.driven_sessions.proofs.Odd.{odd_numbers_never}
+use Rattle.driven_sessions.proofs.Several.{one_thread_never}
+use Rattle.driven_sessions.proofs.Single.{interrupt_numbers_never}
+
+pub keeps_rules : {D : Type 0} (logs : D → D → List Transfer → Type 0) (before after : D) (asks : Bool)
+    → (new : Driven) × DrivesOver logs before after (first_driven asks) new → KeepsRules logs before after asks
+keeps_rules logs before after asks (new, (log, over, run)) = record {
+  new = new;
+  log = log;
+  over = over;
+  run = run;
+  odd_numbers = odd_numbers_never asks log new run;
+  resends = resends_never asks log new run;
+  one_thread = one_thread_never asks log new run;
+  interrupt_numbers = interrupt_numbers_never asks log new run;
+  empty_forgets = empty_forgets_never asks log new run;
+  large_writes = large_writes_never asks log new run;
+  used_numbers = used_numbers_never asks log new run;
+  late_inits = late_inits_never asks log new run;
+  shapes = shapes_never asks log new run;
+}
