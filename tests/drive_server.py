@@ -45,11 +45,17 @@ class Server:
         self.unlinked = None
         self.held = None
 
+    def links(self, ino):
+        """How many names a file has; a directory has one link."""
+        if isinstance(self.files[ino], dict):
+            return 1
+        return sum(list(names.values()).count(ino) for names in self.files.values() if isinstance(names, dict))
+
     def attr(self, ino):
         """struct fuse_attr."""
         file = self.files[ino]
         mode, size = (0o40755, 0) if isinstance(file, dict) else (0o100644, len(file))
-        return struct.pack("<QQQQQQIIIIIIIIII", ino, size, 0, 0, 0, 0, 0, 0, 0, mode, 1, 0, 0, 0, 4096, 0)
+        return struct.pack("<QQQQQQIIIIIIIIII", ino, size, 0, 0, 0, 0, 0, 0, 0, mode, self.links(ino), 0, 0, 0, 4096, 0)
 
     def entry(self, ino, is_counted=True):
         """struct fuse_entry_out: the name is valid for a second, and the lookup is counted."""
