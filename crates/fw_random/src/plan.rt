@@ -151,9 +151,9 @@ impl<A: Allocator + Copy> Plan<A> {
         Ok(())
     }
 
-    /// The directory of a listing is listed once more, from the offset of one of its records.
+    /// The directory of a listing is listed once more, from the offset of one of its first records.
     fn list_on(&mut self, directory: &[u8], names: &[u8]) -> Result<(), NoLine> {
-        let place = self.look % 5;
+        let place = self.look % 2;
         let mut rest = names;
         for _name in 0..place {
             let (_word, more) = split_word(rest);
@@ -175,14 +175,12 @@ impl<A: Allocator + Copy> Plan<A> {
         keep_text(&mut self.todo, line)
     }
 
-    /// What a look does with a file of this kind. Behind a listing the root is looked at: the listing's reply comes behind
-    /// that of RELEASEDIR, for which nothing waits.
+    /// What a look does with a file of this kind.
     fn look_into(&mut self, path: &[u8], kind: &[u8]) -> Result<(), NoLine> {
         match kind {
             b"dir" if path == b"/".as_slice() => Ok(()),
             b"dir" => {
                 let listing = self.listing();
-                self.put_first(b"call stat /")?;
                 self.put_with(listing, path, b" 0")
             }
             b"file" => self.put_with(b"call open ", path, b" r"),

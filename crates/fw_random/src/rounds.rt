@@ -163,8 +163,8 @@ impl<A: Allocator + Copy> Rounds<A> {
                 keep_text(&mut self.plan.todo, line)
             }
             1 => self.plan.put_evictions(),
-            2 => self.add_race(),
-            3..=6 => self.add_burst(),
+            2 | 3 => self.add_race(),
+            4..=6 => self.add_burst(),
             7 | 8 => self.add_call(false),
             _ => self.add_call(true),
         }
