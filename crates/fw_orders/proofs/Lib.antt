@@ -1,4 +1,9 @@
 pub mod Followed
+pub mod Found
+pub mod Good
 pub mod Hexes
+pub mod Making
+pub mod ReadLines
 pub mod ReadOutcomes
+pub mod Statuses
 pub mod Steps

@@ -1,5 +1,9 @@
 pub mod Attempts
+pub mod FileLines
 pub mod Following
+pub mod Found
 pub mod Places
 pub mod Printed
+pub mod Reading
 pub mod Saying
+pub mod Stops

@@ -1,5 +1,8 @@
 //! What may be wrong with a line of a file of calls.
 
+ghost use Rattle.std.specs.Prelude.{◌≡◌};
+ghost use Rattle.fw_orders.specs.Stops.{fault_words};
+
 use fw_script::LineFault;
 use thiserror::Error;
 
@@ -19,7 +22,9 @@ pub enum LinesFault {
 
 impl LinesFault {
     /// The fault in words.
-    pub(crate) fn words(self) -> &'static str {
+    pub(crate) fn words(self) -> &'static str
+        ensures { result.now ≡ fault_words self }
+    {
         match self {
             LinesFault::Line(LineFault::UnknownEvent) => "unknown event",
             LinesFault::Line(LineFault::WrongWords) => "wrong words",

@@ -10,14 +10,7 @@ use std::io::Write;
 /// An output that gets orders.
 #[derive(Drop)]
 pub(crate) struct Headed<'a, W: Write> {
-    out: &'a mut W,
-}
-
-impl<'a, W: Write> Headed<'a, W> {
-    /// Orders that go to an output.
-    pub(crate) fn new(out: &'a mut W) -> Self {
-        Headed { out }
-    }
+    pub(crate) out: &'a mut W,
 }
 
 /// Prints an order behind the line of its number.
@@ -32,10 +25,13 @@ fn print_order<W: Write>(out: &mut W, number: u64, script: &[u8]) -> Result<(), 
 }
 
 impl<W: Write> Printer for Headed<'_, W> {
+    ghost use Rattle.std.proofs.Common.{◌≡◌, ◌∙◌, refl};
     ghost use Rattle.std.specs.Io.KnownBytes.{Appends};
     ghost use Rattle.fw_orders.specs.Printed.{gets_more, gets_nothing, orders_text};
 
-    ghost prints = { λ old new orders. Appends (W.contents old.out.now) (W.contents new.out.now) (orders_text orders) };
+    // It is still the same output, which got the orders.
+    ghost prints = { λ old new orders. (new.out.ghost_name ≡ old.out.ghost_name)
+        × Appends (W.contents old.out.now) (W.contents new.out.now) (orders_text orders) };
 
     fn print(&mut self, number: u64, script: &[u8]) -> Result<(), NotPrinted> {
         match print_order(self.out, number, script) {
@@ -44,8 +40,11 @@ impl<W: Write> Printer for Headed<'_, W> {
         }
     }
 
-    ghost stays = { λ printer. gets_nothing (W.contents printer.out.now) };
+    ghost stays = { λ printer. (refl, gets_nothing (W.contents printer.out.now)) };
 
-    ghost goes_on = { λ first mid last. gets_more (W.contents first.out.now) (W.contents mid.out.now)
-        (W.contents last.out.now) };
+    ghost goes_on = { λ first mid last orders more one then. (
+      then.0 ∙ one.0,
+      gets_more (W.contents first.out.now)
+          (W.contents mid.out.now) (W.contents last.out.now) orders more one.1 then.1,
+    ) };
 }

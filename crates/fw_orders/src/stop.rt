@@ -1,6 +1,9 @@
 //! Why orders are not printed to the end.
 
-ghost use Rattle.std.specs.Prelude.{◌∷◌, [], Contains};
+ghost use Rattle.std.specs.Prelude.{◌≡◌, ◌++◌, OnErr, OnOk, codes};
+ghost use Rattle.std.specs.Io.KnownBytes.{Appends};
+ghost use Rattle.fw_script.specs.Outputs.{AppendsSome};
+ghost use Rattle.fw_orders.specs.Stops.{bad_line_text, line_head, no_such_text, status_of, stop_text};
 
 use crate::fault::LinesFault;
 use fw_script::{OutputRefused, no_memory, write_number, write_text};
@@ -19,21 +22,45 @@ pub(crate) enum Stop {
     OutputRefused,
 }
 
+/// Writes a line's number.
+fn write_head<F: Write>(faults: &mut F, number: u64) -> Result<(), OutputRefused>
+    ensures ok { OnOk result (Appends (F.contents faults.old) (F.contents faults.new) (line_head number)) }
+    ensures refused { OnErr result (AppendsSome (F.contents faults.old) (F.contents faults.new) (line_head number)) }
+{
+    write_text(faults, b"line ")?;
+    write_number(faults, number)?;
+    write_text(faults, b": ")
+}
+
+/// Writes words, to the end of a line.
+fn write_words<F: Write>(faults: &mut F, words: &[u8]) -> Result<(), OutputRefused>
+    ensures ok { OnOk result (Appends (F.contents faults.old) (F.contents faults.new) (words.now ++ codes "\n")) }
+    ensures refused { OnErr result (AppendsSome (F.contents faults.old) (F.contents faults.new)
+        (words.now ++ codes "\n")) }
+{
+    write_text(faults, words)?;
+    write_text(faults, b"\n")
+}
+
 /// Writes a line's number and its fault.
 fn write_bad_line<F: Write>(
     faults: &mut F,
     number: usize,
     fault: LinesFault,
-) -> Result<(), OutputRefused> {
-    write_text(faults, b"line ")?;
-    write_number(faults, number as u64)?;
-    write_text(faults, b": ")?;
-    write_text(faults, fault.words().as_bytes())?;
-    write_text(faults, b"\n")
+) -> Result<(), OutputRefused>
+    ensures ok { OnOk result (Appends (F.contents faults.old) (F.contents faults.new) (bad_line_text number fault)) }
+    ensures refused { OnErr result (AppendsSome (F.contents faults.old) (F.contents faults.new)
+        (bad_line_text number fault)) }
+{
+    write_head(faults, number as u64)?;
+    write_words(faults, fault.words().as_bytes())
 }
 
 /// Writes how many orders there are, where another was asked for.
-fn write_no_such<F: Write>(faults: &mut F, orders: u64) -> Result<(), OutputRefused> {
+fn write_no_such<F: Write>(faults: &mut F, orders: u64) -> Result<(), OutputRefused>
+    ensures ok { OnOk result (Appends (F.contents faults.old) (F.contents faults.new) (no_such_text orders)) }
+    ensures refused { OnErr result (AppendsSome (F.contents faults.old) (F.contents faults.new) (no_such_text orders)) }
+{
     write_text(faults, b"no such order: there are ")?;
     write_number(faults, orders)?;
     write_text(faults, b"\n")
@@ -41,9 +68,11 @@ fn write_no_such<F: Write>(faults: &mut F, orders: u64) -> Result<(), OutputRefu
 
 impl Stop {
     /// Writes the line on standard error, and gives the exit status: 1 where the file is at fault, 3 where memory runs out, 5
-    /// where standard output refuses.
+    /// where standard output refuses, after which nothing more is printed. What `faults` refuses is lost.
     pub(crate) fn report<F: Write>(self, faults: &mut F) -> u8
-        ensures { Contains (0 ∷ 1 ∷ 3 ∷ 5 ∷ []) result }
+        ensures status { result ≡ status_of self }
+        ensures said { AppendsSome (F.contents faults.old) (F.contents faults.new) (stop_text self) }
+        ensures silent { status_of self ≡ 5 → faults.new ≡ faults.old }
     {
         match self {
             Stop::BadLine { number, fault } => {

@@ -1,0 +1,32 @@
+use Rattle.std.proofs.Common.{◌++◌, append_assoc, codes}
+use Rattle.std.specs.Prelude.{decimal}
+use Rattle.fw_script.proofs.Writes.{Appends-append, OnOk-map, refused_1, refused_2, refused_3}
+use Rattle.fw_orders.proofs.stop.write_no_such.Goals as goal
+
+pub returns-in_err-write_text-clause-refused : goal.returns-in_err-write_text-clause-refused
+returns-in_err-write_text-clause-refused g c =
+    let digits = decimal c.args.orders in
+    refused_1 _ _ _ (codes "no such order: there are ") digits (codes "\n") _ (append_assoc (codes "no such order: there are ") digits (codes "\n"))
+    c.in_err-write_text.ensures.refused
+
+pub returns-in_err-write_number-clause-refused : goal.returns-in_err-write_number-clause-refused
+returns-in_err-write_number-clause-refused g c =
+    let digits = decimal c.args.orders in
+    refused_2 _ _ _ _ (codes "no such order: there are ") digits (codes "\n") _ (append_assoc (codes "no such order: there are ") digits (codes "\n"))
+    c.in_ok-write_text.ensures.ok c.in_err-write_number.ensures.refused
+
+pub returns-clause-refused : goal.returns-clause-refused
+returns-clause-refused g c =
+    let digits = decimal c.args.orders in
+    refused_3 c.write_text-2.result _ _ _ _ (codes "no such order: there are ") digits (codes "\n") _
+    (append_assoc (codes "no such order: there are ") digits (codes "\n")) c.in_ok-write_text.ensures.ok c.in_ok-write_number.ensures.ok
+    c.write_text-2.ensures.refused
+
+pub returns-clause-ok : goal.returns-clause-ok
+returns-clause-ok g c =
+    let digits = decimal c.args.orders in
+    OnOk-map _ _ c.write_text-2.result
+    (λ wrote. Appends-append _ _ _ (codes "no such order: there are " ++ digits) (codes "\n")
+    (Appends-append _ _ _ (codes "no such order: there are ") digits c.in_ok-write_text.ensures.ok
+    c.in_ok-write_number.ensures.ok) wrote)
+    c.write_text-2.ensures.ok
