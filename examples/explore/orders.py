@@ -18,28 +18,19 @@ import sys
 import tempfile
 from pathlib import Path
 
-from shrink import WRONG, differing, over_launcher, over_socket
+from shrink import WRONG, differing, over_launcher, over_socket, parse
 
 HEAD = re.compile(r"# order (\d+)$")
+# The longest that a kernel of fuseworld keeps a name. In an order each name is looked up anew, whatever the server says.
+DAY = "tick 86400000\n"
 ALL_RUN = (0, 6)
 
 
 def parsed():
     parser = argparse.ArgumentParser(description=__doc__.splitlines()[0], usage="orders.py [OPTIONS] SERVER-WORDS .. -- FILE")
-    parser.add_argument("-p", "--program", default="fuseworld", help="the program, if not fuseworld")
-    parser.add_argument("-l", "--launcher", default="launcher", help="the launcher, for a server that takes MOUNT")
-    parser.add_argument("-o", "--option", action="append", default=[], help="an option of drive, as -o=--no-opendir; may come again")
-    parser.add_argument("-b", "--before", help="a command of the shell that goes before each order, as to empty a folder")
     parser.add_argument("-B", "--beside", action="store_true", help="compare the answers with those of `fuseworld serve` too")
-    parser.add_argument("-w", "--wait", type=int, default=2000, help="for how many milliseconds a reply is waited for")
     parser.add_argument("-m", "--most", type=int, default=0, help="how many orders are run at most; 0 for all")
-    parser.add_argument("server", nargs=argparse.REMAINDER, metavar="SERVER-WORDS")
-    words = sys.argv[1:]
-    if "--" not in words or len(words) - words.index("--") != 2:
-        parser.error("-- and the file come last")
-    asked = parser.parse_args(words[:words.index("--")])
-    asked.file = words[-1]
-    return asked
+    return parse(parser)
 
 
 def orders(asked):
@@ -53,7 +44,7 @@ def orders(asked):
                     yield number, script
                 number, script = int(head[1]), []
             else:
-                script.append(line)
+                script += [line, DAY] if line == "write\n" else [line]
         if printing.wait() != 0:
             sys.exit(printing.returncode)
         if number is not None:

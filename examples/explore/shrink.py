@@ -28,20 +28,30 @@ ODD = re.compile(r"frame \d+: warning: ")
 NAMES_CALL = {"intr": 1, "call read": 2, "call write": 2, "call close": 2}
 
 
-def parsed():
-    parser = argparse.ArgumentParser(description=__doc__.splitlines()[0], usage="shrink.py [OPTIONS] SERVER-WORDS .. -- SCRIPT")
+def parse(parser):
+    """The options of a program that runs a server on a file anew each time, with its own; the server's words, and the file."""
     parser.add_argument("-p", "--program", default="fuseworld", help="the program, if not fuseworld")
     parser.add_argument("-l", "--launcher", default="launcher", help="the launcher, for a server that takes MOUNT")
     parser.add_argument("-o", "--option", action="append", default=[], help="an option of drive, as -o=--beside; may come again")
-    parser.add_argument("-b", "--before", help="a command of the shell that goes before each try, as to empty a folder")
-    parser.add_argument("-f", "--fault", help="the fault to keep: a text that its line has")
+    parser.add_argument("-b", "--before", help="a command of the shell that goes before each run, as to empty a folder")
     parser.add_argument("-w", "--wait", type=int, default=2000, help="for how many milliseconds a reply is waited for")
-    parser.add_argument("server", nargs="+", metavar="SERVER-WORDS")
+    # The server's words may begin with -, as its own options.
+    parser.add_argument("server", nargs=argparse.REMAINDER, metavar="SERVER-WORDS")
     words = sys.argv[1:]
     if "--" not in words or len(words) - words.index("--") != 2:
-        parser.error("-- and the script come last")
+        parser.error("-- and the file come last")
     asked = parser.parse_args(words[:words.index("--")])
-    asked.script = Path(words[-1])
+    if not asked.server:
+        parser.error("the server's words are missing")
+    asked.file = words[-1]
+    return asked
+
+
+def parsed():
+    parser = argparse.ArgumentParser(description=__doc__.splitlines()[0], usage="shrink.py [OPTIONS] SERVER-WORDS .. -- SCRIPT")
+    parser.add_argument("-f", "--fault", help="the fault to keep: a text that its line has")
+    asked = parse(parser)
+    asked.script = Path(asked.file)
     asked.is_beside = asked.is_odd = False
     return asked
 
