@@ -2,12 +2,12 @@
 
 ghost use Rattle.std.specs.Prelude.{◌≡◌, ◌≤◌, length};
 ghost use Rattle.fuse_protocol.specs.Table.{row_at};
-ghost use Rattle.fuse_replies.specs.Replies.{IsReply, reply_message};
+ghost use Rattle.fuse_protocol.specs.declared.agreed.Agreed.{Agreed};
+ghost use Rattle.fuse_replies.specs.Replies.{IsReply, ReplyMessage};
 ghost use Rattle.fuse_sessions.specs.Fits as words;
 
 use fk_fields::u32_at;
-use fuse_protocol::{Agreed, Opcode, ReplyShape, row_of};
-use fuse_replies::{Answer, Reply};
+use fuse_protocol::{Opcode, ReplyShape};
 use fuse_sessions::Fit;
 
 /// A body that fits, or does not.
@@ -61,22 +61,15 @@ pub(crate) fn fit_in(shape: ReplyShape, asked: u32, bytes: &[u8]) -> Fit
     }
 }
 
-/// Whether the device is to accept a body that was read as a reply to a request of an opcode. The reading judged its size,
-/// but of bytes, which it takes in any number: of IOCTL they may be too many. What was agreed is that of the reading.
+/// Whether the device is to accept a body that was read as a reply to a request of an opcode. The reading judged its size;
+/// only of IOCTL it takes more bytes than the device may.
 #[inline(always)]
-pub(crate) fn fit_of_reply(
-    agreed: Agreed,
-    opcode: Opcode,
-    asked: u32,
-    bytes: &[u8],
-    reply: &Reply<'_>,
-) -> Fit
-    requires { IsReply agreed (row_at opcode).reply asked bytes.now (reply_message reply.now) }
+pub(crate) fn fit_of_reply(opcode: Opcode, asked: u32, bytes: &[u8]) -> Fit
+    requires { (agreed : Agreed) × (r : ReplyMessage) × IsReply agreed (row_at opcode).reply asked bytes.now r }
     ensures { result ≡ words.fit_in (row_at opcode).reply asked bytes.now }
 {
-    let _ = agreed;
-    match reply.answer {
-        Answer::Bytes(_) => fit_in(row_of(opcode).reply, asked, bytes),
+    match opcode {
+        Opcode::Ioctl => fit_in(ReplyShape::Ioctl, asked, bytes),
         _ => Fit::Fits,
     }
 }

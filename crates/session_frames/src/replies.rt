@@ -206,7 +206,7 @@ fn write_answered<A: Allocator + Copy>(
     };
     match &read_reply(known.agreed, &request, bytes) {
         Ok(reply) => {
-            let fit = fit_of_reply(known.agreed, opcode, asked.asked, bytes, reply);
+            let fit = fit_of_reply(opcode, asked.asked, bytes);
             write_replied(acts, bytes, taken, fit)?;
             write_said(acts, known, opcode, asked, taken, &reply.answer)?;
             Ok(known_after_reply(known, taken, &reply.answer))
