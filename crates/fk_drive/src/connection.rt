@@ -21,6 +21,8 @@ pub struct Connection<A: Allocator + Copy> {
     pub(crate) next: u64,
     pub(crate) asks: bool,
     pub(crate) directories: Vec<Directory, A>,
+    /// Where frames are received; zeroed once.
+    pub(crate) room: Vec<u8, A>,
 }
 
 impl<A: Allocator + Copy> Connection<A> {
@@ -39,6 +41,7 @@ impl<A: Allocator + Copy> Connection<A> {
             next: FIRST_OPENDIR_UNIQUE,
             asks,
             directories: Vec::new(alloc),
+            room: Vec::new(alloc),
         }
     }
 }

@@ -156,7 +156,7 @@ fn receive_said<A: Allocator + Copy, D: Device, N: Notes<O>, O>(
     if let Err(end) = connection.make_room_awaiting() {
         return Awaited::Ended(end);
     }
-    let frame = match receive_frame(connection.alloc, device) {
+    let frame = match receive_frame(connection.alloc, &mut connection.room, device) {
         Ok(frame) => frame,
         Err(end) => return Awaited::Ended(end),
     };

@@ -98,7 +98,7 @@ pub(crate) fn receive_next<A: Allocator + Copy, D: Device, N: Notes<O>, O>(
     ensures noted { HasNoted N.notes notes.old notes.new out.old out.new }
 {
     connection.make_room()?;
-    let frame = receive_frame(connection.alloc, device)?;
+    let frame = receive_frame(connection.alloc, &mut connection.room, device)?;
     connection.keep(frame, notes, out);
     Ok(())
 }
