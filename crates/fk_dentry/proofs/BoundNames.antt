@@ -56,7 +56,7 @@ get-names ((place, Some dentry) ∷ slots) h q =
       | false ↦ get-names slots (both_second _ _ h) q
     ]
 
-alike : (slots : Slots) (names : NameMap Dentry) → T (is_sorted place_cmp slots) → T (is_sorted place_cmp names)
+pub alike : (slots : Slots) (names : NameMap Dentry) → T (is_sorted place_cmp slots) → T (is_sorted place_cmp names)
     → ((q : Place) → bound_in (get_name slots q) ≡ get_name names q) → bound_names slots ≡ names
 alike slots names h g is = same_entries place_cmp place_total place_same (bound_names slots) names
     (sorted_names slots h) g (λ q. get-names slots h q ∙ is q)

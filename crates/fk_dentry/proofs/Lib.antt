@@ -3,6 +3,7 @@ pub mod SortedEntries
 pub mod PlaceOrder
 pub mod KeyedRows
 pub mod BoundNames
+pub mod FirstBound
 pub mod NamedIds
 pub mod Counts
 pub mod TableLemmas

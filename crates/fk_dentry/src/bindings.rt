@@ -1,5 +1,5 @@
 //! The cached names.
-ghost use Rattle.std.specs.Prelude.{◌≡◌, ◌≢◌, ℕ, [], OnOk, IsOk, is_some, vec_len};
+ghost use Rattle.std.specs.Prelude.{◌≡◌, ◌≢◌, ℕ, [], MatchOption, OnOk, IsOk, IsSome, is_some, vec_len};
 ghost use Rattle.fuse_spec.specs.Values.Maps.{Place, get_name, put_name, remove_name};
 ghost use Rattle.fuse_spec.specs.Calls.Vfs.{valid_at};
 ghost use Rattle.fk_dentry.specs.CachedNames.{HasRoom, found_by, names_the_node};
@@ -7,7 +7,7 @@ ghost use Rattle.fk_dentry.specs.CachedNames.{HasRoom, found_by, names_the_node}
 use crate::found::Found;
 use crate::key::NameKey;
 use crate::node_counts::NodeCounts;
-use crate::rows::{Rows, add, bind, slot, take_out};
+use crate::rows::{Rows, add, bind, first_bound, slot, take_out};
 use fuse_spec::Dentry;
 use std::alloc::{AllocError, Allocator, Global};
 use std::collections::BTreeMap;
@@ -23,9 +23,9 @@ use std::marker::Model;
 ///
 /// | Call | Time |
 /// |---|---|
-/// | `find`, `names_node`, `remove` | log `n` steps |
+/// | `find`, `bound`, `names_node`, `remove` | log `n` steps |
 /// | `put`, `reserve` | log `n` steps, on the whole of many calls: at times one moves all counts of nodes |
-/// | `clear` | `n` steps |
+/// | `first`, `clear` | `n` steps |
 #[derive(Drop)]
 pub struct Bindings<A: Allocator = Global> {
     rows: Rows<A>,
@@ -75,10 +75,17 @@ impl<A: Allocator + Copy> Bindings<A> {
     }
 
     /// What a name is bound to, also after its end.
-    fn bound(&self, directory: u64, name: &[u8]) -> Option<Dentry>
+    pub fn bound(&self, directory: u64, name: &[u8]) -> Option<Dentry>
         ensures { result ≡ get_name self.now.names (directory, name.now) }
     {
         slot(&self.rows, directory, name)?
+    }
+
+    /// A name that is bound, if one is: its directory, and it. It may be past its end.
+    pub fn first(&self) -> Option<(u64, &[u8])>
+        ensures { MatchOption result (self.now.names ≡ []) (λ n. IsSome (get_name self.now.names (n.0, n.1.now))) }
+    {
+        first_bound(&self.rows)
     }
 
     /// Makes room for a name: from then on a `put` of it takes no memory, until it is removed or all are cleared.

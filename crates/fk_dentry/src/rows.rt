@@ -1,8 +1,8 @@
 //! The names that have room, in an ordered map.
-ghost use Rattle.std.specs.Prelude.{◌≡◌, ℕ, None, Some, IsSome, OnErr, OnOk};
+ghost use Rattle.std.specs.Prelude.{◌≡◌, ℕ, [], None, Some, IfNone, IfSome, IsSome, OnErr, OnOk};
 ghost use Rattle.fuse_spec.specs.Values.Maps.{get_name, put_name, remove_name};
 ghost use Rattle.fk_dentry.specs.Keys.{place_of_key};
-ghost use Rattle.fk_dentry.specs.Rows.{slots_of, bound_in};
+ghost use Rattle.fk_dentry.specs.Rows.{slots_of, bound_in, bound_names};
 
 use crate::key::{LentKey, NameKey};
 use fuse_spec::Dentry;
@@ -69,4 +69,17 @@ pub(crate) fn take_out<A: Allocator>(
         Some(dentry) => dentry,
         None => None,
     }
+}
+
+/// A name that is bound, if one is: its directory, and it.
+pub(crate) fn first_bound<A: Allocator>(rows: &Rows<A>) -> Option<(u64, &[u8])>
+    ensures some { IfSome result (λ n. IsSome (bound_in (get_name (slots_of rows.now.entries) (n.0, n.1.now)))) }
+    ensures none { IfNone result (bound_names (slots_of rows.now.entries) ≡ []) }
+{
+    for (key, slot) in rows {
+        if slot.is_some() {
+            return Some((key.directory, key.name.as_slice()));
+        }
+    }
+    None
 }

@@ -1,9 +1,10 @@
 //! Answers of calls.
 
-ghost use Rattle.std.specs.Prelude.{length, ◌≡◌, ◌<◌, ◌+◌, Some, None, true, is_some, option_map, slice_get, IfNone, IfSome};
+ghost use Rattle.std.specs.Prelude.{length, ◌≡◌, ◌<◌, ◌+◌, Some, None, true, find, is_some, option_map, slice_get, IfNone, IfSome};
 ghost use Rattle.fuse_spec.specs.Values.Maps.{get, remove};
 ghost use Rattle.fuse_spec.specs.Calls.Vfs.{answered};
 ghost use Rattle.fk_syscalls.specs.Values.{answer_of};
+ghost use Rattle.fuse_spec.specs.Kernel.Kernel.{is_for};
 ghost use Rattle.fuse_spec.specs.Kernel.QueueCalls.{waiting, without};
 ghost use Rattle.fk_kernel.specs.Soundness.{requests_for};
 
@@ -49,6 +50,13 @@ impl<Q: QueueTable<Purpose> + Drop, C: CountTable<Heap = Q::Heap> + Drop> Kernel
         ensures { result ≡ length self.now.vfs.answers }
     {
         self.answers.len()
+    }
+
+    /// The number of the request that serves a call, read or not, if there is one.
+    pub fn request_for(&self, call: u64) -> Option<u64>
+        ensures { result ≡ option_map (λ e. e.0) (find (λ e. is_for call e.1.kept) self.now.queues.requests) }
+    {
+        self.queues.request_for(call)
     }
 
     /// Hands out, once, the answer of the lowest answered call.

@@ -5,6 +5,7 @@
 mod aborting;
 mod answers;
 mod beginning;
+mod cached_names;
 mod clock;
 mod drop_binding;
 mod entries;
