@@ -114,11 +114,10 @@ impl<A: Allocator + Copy> SessionJudge<A> {
             → HasSeenFrom start before s self.old → HasSeenFrom start before s self.new) }
     {
         let asked = asked_for(&self.judge, transfer);
-        let learnt = write_transfer(acts, &self.known, asked, transfer)?;
+        let mut known = self.known;
+        write_transfer(acts, &mut known, asked, transfer)?;
         self.judge.see(acts, verdicts)?;
-        if let Some(known) = learnt {
-            self.known = known;
-        }
+        self.known = known;
         Ok(())
     }
 }

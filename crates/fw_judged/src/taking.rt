@@ -49,12 +49,12 @@ pub(crate) fn read_written<'a, A: Allocator + Copy>(
 {
     let accepted = Transfer::Written(frame, Taken::Accepted);
     let asked = judge.waiting(reply_number(accepted));
-    let known = Known {
+    let mut known = Known {
         offered: None,
         agreed: judge.agreed(),
         has_resent: false,
         unjudged: judge.unjudged(),
     };
-    write_transfer(acts, &known, asked.as_ref(), accepted)?;
+    write_transfer(acts, &mut known, asked.as_ref(), accepted)?;
     Ok(Transfer::Written(frame, taking_by(asked, acts.as_slice())))
 }

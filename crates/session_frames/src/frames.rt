@@ -1,13 +1,13 @@
 //! The acts of a transfer.
 
-ghost use Rattle.std.specs.Prelude.{◌≡◌, ℕ, [], IfOk, OnOk, unwrap_or};
+ghost use Rattle.std.specs.Prelude.{◌≡◌, ℕ, [], OnOk};
 ghost use Rattle.std.specs.Option.{option_copied};
 ghost use Rattle.fuse_sessions.specs.Frames as words;
 ghost use Rattle.fuse_sessions.specs.Sessions.{Session};
 ghost use Rattle.fuse_sessions.specs.Waiting.{waits};
 ghost use Rattle.session_frames.specs.Numbers.{IsReplyNumber};
 
-use crate::init::known_after_request;
+use crate::init::learn_request;
 use crate::replies::write_written;
 use crate::requests::write_request;
 use crate::unread::write_unread;
@@ -43,59 +43,50 @@ pub fn reply_number(transfer: Transfer<'_>) -> u64
     }
 }
 
-/// The acts of a transfer whose frames can be read, by what waits under its number. Returns what is known after it,
-/// where that is new.
+/// The acts of a transfer whose frames can be read, by what waits under its number. What is known changes with it.
 #[inline(always)]
 fn write_read_transfer<A: Allocator + Copy>(
     acts: &mut Vec<Act, A>,
-    known: &Known,
+    known: &mut Known,
     asked: Option<&Asked>,
     transfer: Transfer<'_>,
-) -> Result<Option<Known>, AllocError>
+) -> Result<(), AllocError>
     requires { acts.old.items ≡ [] }
-    ensures { IfOk result (λ later. (s : Session) (n : ℕ) → IsReplyNumber transfer.entry n → waits s n ≡ option_copied asked.entry
-        → words.AreReadActs known.now s transfer.entry acts.new.items (unwrap_or later known.now)) }
+    ensures { OnOk result ((s : Session) (n : ℕ) → IsReplyNumber transfer.entry n → waits s n ≡ option_copied asked.entry
+        → words.AreReadActs known.old s transfer.entry acts.new.items known.new) }
 {
     match transfer {
         Transfer::Request(bytes) => {
             write_read(acts, known, bytes)?;
-            Ok(known_after_request(known, bytes))
+            learn_request(known, bytes);
+            Ok(())
         }
         Transfer::Written(bytes, taken) => write_written(acts, known, asked, bytes, taken),
-        Transfer::SeveralReaders => {
-            write(acts, Act::SeveralReaders)?;
-            Ok(None)
-        }
-        Transfer::SeveralWriters => {
-            write(acts, Act::SeveralWriters)?;
-            Ok(None)
-        }
-        Transfer::Ended => {
-            write(acts, Act::Ends)?;
-            Ok(None)
-        }
+        Transfer::SeveralReaders => write(acts, Act::SeveralReaders),
+        Transfer::SeveralWriters => write(acts, Act::SeveralWriters),
+        Transfer::Ended => write(acts, Act::Ends),
     }
 }
 
 /// The acts of a transfer, by what waits under its number, in place of what the vector had: none once INIT agreed on frames
-/// that cannot be read. Returns what is known after it, where that is new.
+/// that cannot be read. What is known changes with the transfer.
 ///
 /// # Errors
 ///
-/// Out of memory.
+/// Out of memory. What is known may then be wrong.
 #[inline(always)]
 pub fn write_transfer<A: Allocator + Copy>(
     acts: &mut Vec<Act, A>,
-    known: &Known,
+    known: &mut Known,
     asked: Option<&Asked>,
     transfer: Transfer<'_>,
-) -> Result<Option<Known>, AllocError>
-    ensures { IfOk result (λ later. (s : Session) (n : ℕ) → IsReplyNumber transfer.entry n → waits s n ≡ option_copied asked.entry
-        → words.AreActs known.now s transfer.entry acts.new.items (unwrap_or later known.now)) }
+) -> Result<(), AllocError>
+    ensures { OnOk result ((s : Session) (n : ℕ) → IsReplyNumber transfer.entry n → waits s n ≡ option_copied asked.entry
+        → words.AreActs known.old s transfer.entry acts.new.items known.new) }
 {
     acts.clear();
     if known.unjudged.is_some() {
-        return Ok(None);
+        return Ok(());
     }
     write_read_transfer(acts, known, asked, transfer)
 }

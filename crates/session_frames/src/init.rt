@@ -1,6 +1,6 @@
 //! What INIT makes known.
 
-ghost use Rattle.std.specs.Prelude.{◌≡◌, ◌++◌, OnOk, unwrap_or};
+ghost use Rattle.std.specs.Prelude.{◌≡◌, ◌++◌, OnOk};
 ghost use Rattle.fuse_replies.specs.Replies.{answer_content};
 ghost use Rattle.fuse_sessions.specs.Frames as words;
 
@@ -10,44 +10,38 @@ use fuse_replies::Answer;
 use fuse_sessions::{Act, Fault, Known, Taken};
 use std::alloc::{AllocError, Allocator};
 
-/// What is known once a request was read, where that is new: what the first INIT offers.
+/// A request was read: what the first INIT offers is known.
 #[inline(always)]
-pub(crate) fn known_after_request(known: &Known, bytes: &[u8]) -> Option<Known>
-    ensures { words.IsOffered known.now bytes.now (unwrap_or result known.now) }
+pub(crate) fn learn_request(known: &mut Known, bytes: &[u8])
+    ensures { words.IsOffered known.old bytes.now known.new }
 {
     if known.offered.is_some() {
-        return None;
+        return;
     }
-    match read_init(bytes) {
-        Ok(init) => Some(Known {
-            offered: Some(init),
-            ..*known
-        }),
-        Err(_) => None,
+    if let Ok(init) = read_init(bytes) {
+        known.offered = Some(init);
     }
 }
 
-/// What is known once INIT was answered, where that is new: what was agreed, or why the frames cannot be read.
-fn known_by_init(known: &Known, reply: &InitReply) -> Option<Known>
-    ensures { words.IsAgreed known.now known.now.offered reply.now (unwrap_or result known.now) }
+/// INIT was answered: what was agreed is known, or why the frames cannot be read.
+fn learn_init(known: &mut Known, reply: &InitReply)
+    ensures { words.IsAgreed known.old known.old.offered reply.now known.new }
 {
-    let request = known.offered?;
+    let Some(request) = known.offered else {
+        return;
+    };
     match Agreed::of_init(&request, reply) {
-        Ok(agreed) => Some(Known { agreed, ..*known }),
-        Err(why) => Some(Known {
-            unjudged: Some(why),
-            ..*known
-        }),
+        Ok(agreed) => known.agreed = agreed,
+        Err(why) => known.unjudged = Some(why),
     }
 }
 
-/// What is known once a reply was written, where that is new.
-pub(crate) fn known_after_reply(known: &Known, taken: Taken, answer: &Answer<'_>) -> Option<Known>
-    ensures { words.IsTold known.now taken (answer_content answer.now) (unwrap_or result known.now) }
+/// A reply was written: what it says of INIT is known.
+pub(crate) fn learn_reply(known: &mut Known, taken: Taken, answer: &Answer<'_>)
+    ensures { words.IsTold known.old taken (answer_content answer.now) known.new }
 {
-    match (taken, answer) {
-        (Taken::Accepted, Answer::Init(reply)) => known_by_init(known, reply),
-        _ => None,
+    if let (Taken::Accepted, Answer::Init(reply)) = (taken, answer) {
+        learn_init(known, reply);
     }
 }
 

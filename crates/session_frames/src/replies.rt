@@ -1,6 +1,6 @@
 //! The acts of what the server writes.
 
-ghost use Rattle.std.specs.Prelude.{◌≡◌, ◌≤◌, ◌↔◌, [], ◌∷◌, ◌++◌, IfOk, IsTrue, OnOk, length, unwrap_or};
+ghost use Rattle.std.specs.Prelude.{◌≡◌, ◌≤◌, ◌↔◌, [], ◌∷◌, ◌++◌, IsTrue, OnOk, length};
 ghost use Rattle.std.specs.Option.{option_copied};
 ghost use Rattle.fuse_protocol.specs.Table.{row_at};
 ghost use Rattle.fuse_replies.specs.Replies.{IsFrame, answer_content};
@@ -14,7 +14,7 @@ ghost use Rattle.fuse_sessions.specs.Waiting.{waits};
 use crate::answers::write_answer;
 use crate::entries::write_records;
 use crate::fits::{fit_in, fit_of_another, fit_of_reply};
-use crate::init::{known_after_reply, write_init};
+use crate::init::{learn_reply, write_init};
 use crate::writing::write;
 use fk_fields::{u32_at, u64_at};
 use fuse_protocol::{MAX_FRAME, Opcode, RequestHead, row_of};
@@ -63,30 +63,24 @@ fn is_resend(bytes: &[u8], taken: Taken) -> bool
     }
 }
 
-/// A notification. Returns what is known after it, where that is new.
+/// A notification.
 fn write_notification<A: Allocator + Copy>(
     acts: &mut Vec<Act, A>,
-    known: &Known,
+    known: &mut Known,
     bytes: &[u8],
     taken: Taken,
-) -> Result<Option<Known>, AllocError>
+) -> Result<(), AllocError>
     requires empty { acts.old.items ≡ [] }
     requires frame { IsFrame bytes.now }
-    ensures { IfOk result (λ later. words.IsNotified known.now bytes.now taken acts.new.items (unwrap_or later known.now)) }
+    ensures { OnOk result (words.IsNotified known.old bytes.now taken acts.new.items known.new) }
 {
     match read_notification(known.agreed, bytes) {
         Ok(_) if is_resend(bytes, taken) => {
-            write(acts, Act::Resends)?;
-            Ok(Some(Known {
-                has_resent: true,
-                ..*known
-            }))
+            known.has_resent = true;
+            write(acts, Act::Resends)
         }
-        Ok(_) => Ok(None),
-        Err(_) => {
-            write(acts, Act::Faulty(Fault::MalformedNotification))?;
-            Ok(None)
-        }
+        Ok(_) => Ok(()),
+        Err(_) => write(acts, Act::Faulty(Fault::MalformedNotification)),
     }
 }
 
@@ -184,19 +178,18 @@ fn write_another<A: Allocator + Copy>(
     write_listed(acts, opcode, asked, bytes, taken)
 }
 
-/// A reply to a request of an opcode that waits. Returns what is known after it, where that is new.
+/// A reply to a request of an opcode that waits.
 fn write_answered<A: Allocator + Copy>(
     acts: &mut Vec<Act, A>,
-    known: &Known,
+    known: &mut Known,
     opcode: Opcode,
     asked: &Asked,
     bytes: &[u8],
     taken: Taken,
-) -> Result<Option<Known>, AllocError>
+) -> Result<(), AllocError>
     requires empty { acts.old.items ≡ [] }
     requires frame { IsFrame bytes.now }
-    ensures { IfOk result (λ later. words.IsReplyOf known.now bytes.now taken opcode asked.now acts.new.items
-        (unwrap_or later known.now)) }
+    ensures { OnOk result (words.IsReplyOf known.old bytes.now taken opcode asked.now acts.new.items known.new) }
 {
     let request = RequestHead {
         opcode,
@@ -209,49 +202,45 @@ fn write_answered<A: Allocator + Copy>(
             let fit = fit_of_reply(opcode, asked.asked, bytes);
             write_replied(acts, bytes, taken, fit)?;
             write_said(acts, known, opcode, asked, taken, &reply.answer)?;
-            Ok(known_after_reply(known, taken, &reply.answer))
+            learn_reply(known, taken, &reply.answer);
+            Ok(())
         }
-        Err(_) => {
-            write_another(acts, opcode, asked, bytes, taken)?;
-            Ok(None)
-        }
+        Err(_) => write_another(acts, opcode, asked, bytes, taken),
     }
 }
 
-/// A reply, by what waits under its number. Returns what is known after it, where that is new.
+/// A reply, by what waits under its number.
 fn write_reply<A: Allocator + Copy>(
     acts: &mut Vec<Act, A>,
-    known: &Known,
+    known: &mut Known,
     asked: Option<&Asked>,
     bytes: &[u8],
     taken: Taken,
-) -> Result<Option<Known>, AllocError>
+) -> Result<(), AllocError>
     requires empty { acts.old.items ≡ [] }
     requires frame { IsFrame bytes.now }
-    ensures { IfOk result (λ later. words.IsReplyTo known.now bytes.now taken (option_copied asked.entry) acts.new.items
-        (unwrap_or later known.now)) }
+    ensures { OnOk result (words.IsReplyTo known.old bytes.now taken (option_copied asked.entry) acts.new.items known.new) }
 {
     if let Some(asked) = asked
         && let Some(opcode) = asked.opcode
     {
         return write_answered(acts, known, opcode, asked, bytes, taken);
     }
-    write_replied(acts, bytes, taken, Fit::MayFit)?;
-    Ok(None)
+    write_replied(acts, bytes, taken, Fit::MayFit)
 }
 
-/// What is written under a good header, by what waits under its number. Returns what is known after it, where that is new.
+/// What is written under a good header, by what waits under its number.
 fn write_headed<A: Allocator + Copy>(
     acts: &mut Vec<Act, A>,
-    known: &Known,
+    known: &mut Known,
     asked: Option<&Asked>,
     bytes: &[u8],
     taken: Taken,
-) -> Result<Option<Known>, AllocError>
+) -> Result<(), AllocError>
     requires empty { acts.old.items ≡ [] }
     requires frame { IsFrame bytes.now }
-    ensures { IfOk result (λ later. (s : Session) → waits s (words.number_in bytes.now) ≡ option_copied asked.entry
-        → words.IsHeaded known.now s bytes.now taken acts.new.items (unwrap_or later known.now)) }
+    ensures { OnOk result ((s : Session) → waits s (words.number_in bytes.now) ≡ option_copied asked.entry
+        → words.IsHeaded known.old s bytes.now taken acts.new.items known.new) }
 {
     let unique = u64_at(bytes, 8);
     if unique == 0 {
@@ -263,32 +252,30 @@ fn write_headed<A: Allocator + Copy>(
             is_again: u32_at(bytes, 4) == AGAIN,
             taken,
         };
-        write(acts, replies)?;
-        return Ok(None);
+        return write(acts, replies);
     }
     write_reply(acts, known, asked, bytes, taken)
 }
 
-/// What the server writes, by what waits under its number. Returns what is known after it, where that is new.
+/// What the server writes, by what waits under its number. What it says of INIT is known from then on.
 ///
 /// # Errors
 ///
 /// Out of memory.
 pub(crate) fn write_written<A: Allocator + Copy>(
     acts: &mut Vec<Act, A>,
-    known: &Known,
+    known: &mut Known,
     asked: Option<&Asked>,
     bytes: &[u8],
     taken: Taken,
-) -> Result<Option<Known>, AllocError>
+) -> Result<(), AllocError>
     requires { acts.old.items ≡ [] }
-    ensures { IfOk result (λ later. (s : Session)
+    ensures { OnOk result ((s : Session)
         → (16 ≤ length bytes.now → waits s (words.number_in bytes.now) ≡ option_copied asked.entry)
-        → words.IsWritten known.now s bytes.now taken acts.new.items (unwrap_or later known.now)) }
+        → words.IsWritten known.old s bytes.now taken acts.new.items known.new) }
 {
     if has_head(bytes) {
         return write_headed(acts, known, asked, bytes, taken);
     }
-    write(acts, Act::Faulty(Fault::MalformedReply))?;
-    Ok(None)
+    write(acts, Act::Faulty(Fault::MalformedReply))
 }
