@@ -58,12 +58,14 @@ is_calm a = true
 abbrev pub AreCalm : List Act → Type 0
 AreCalm acts = list_all is_calm acts ≡ true
 
--- What a server shows: it is calm, is no fault of a request, begins none, and writes nothing.
+-- What a server shows: it is calm, is no fault of a request, begins none, asks nothing and writes nothing.
 abbrev pub is_shown : Act → Bool
 is_shown (act.Faulty fault.MalformedRequest) = false
+is_shown (act.Faulty fault.RequestBeforeInit) = false
 is_shown (act.Faulty fault.InitNotFirst) = false
 is_shown (act.Faulty fault.WriteTooLarge) = false
 is_shown (act.Begins o) = false
+is_shown (act.Asks unique asked) = false
 is_shown (act.Writes size) = false
 is_shown a = is_calm a
 
@@ -80,10 +82,12 @@ shown_pass test passes (a ∷ acts) are =
 
 pub is_calm_where_shown : (a : Act) → is_shown a ≡ true → is_calm a ≡ true
 is_calm_where_shown (act.Faulty fault.MalformedRequest) is = cc
+is_calm_where_shown (act.Faulty fault.RequestBeforeInit) is = cc
 is_calm_where_shown (act.Faulty fault.InitNotFirst) is = cc
 is_calm_where_shown (act.Faulty fault.WriteTooLarge) is = cc
 is_calm_where_shown (act.Faulty f) is = is
 is_calm_where_shown (act.Begins o) is = cc
+is_calm_where_shown (act.Asks unique asked) is = cc
 is_calm_where_shown (act.Writes size) is = cc
 is_calm_where_shown a is = is
 

@@ -1,7 +1,7 @@
 -- What a request's frame is read as: it reads one request, or interrupts one, or does nothing that counts here.
 use Rattle.std.proofs.Common.{◌≡◌, ◌≤◌, ◌^◌, inl, inr, ℕ, Bool, true, false, not, ◌&&◌, List, [], ◌∷◌, ◌++◌, Option, Some, None, refl, sym, ◌∙◌, ap, nat_eq, nat_le, arith, if◌then◌else◌}
 use Rattle.std.specs.List.{list_all}
-use Rattle.std.proofs.lemmas.Bool.{and_parts, false≢true}
+use Rattle.std.proofs.lemmas.Bool.{and_from, and_parts, false≢true}
 use Rattle.std.proofs.lemmas.Bool.Decides.{nat_tests}
 use Rattle.fuse_protocol.specs.declared.agreed.Agreed.{Agreed}
 use Rattle.fuse_protocol.specs.declared.opcode.Opcode.{Opcode}
@@ -62,11 +62,12 @@ abbrev pub behind : Opcode → RequestMessage → Asked → List Act
 behind o m asked = naming asked.nodeid ++ naming asked.other ++ using asked.uses ++ using asked.copies_to
     ++ releasing o m.nodeid m.handle ++ writing o m ++ act.Asks m.unique asked ∷ []
 
--- A test passes it that shown acts pass, and what is written.
+-- A test passes it that shown acts pass, what is written, and what asks.
 module _ (test : Act → Bool) (passes : (a : Act) → is_shown a ≡ true → test a ≡ true) (o : Opcode) (m : RequestMessage)
     (asked : Asked) where
-  pub behind_passes : list_all test (writing o m) ≡ true → list_all test (behind o m asked) ≡ true
-  behind_passes writes =
+  pub behind_passes : list_all test (writing o m) ≡ true → test (act.Asks m.unique asked) ≡ true
+      → list_all test (behind o m asked) ≡ true
+  behind_passes writes asks =
       let first : List Act = naming asked.nodeid ++ naming asked.other in
       let second : List Act = first ++ using asked.uses in
       let third : List Act = second ++ using asked.copies_to in
@@ -77,7 +78,7 @@ module _ (test : Act → Bool) (passes : (a : Act) → is_shown a ≡ true → t
       let three = each_of is_shown second (using asked.copies_to) two (using_calm asked.copies_to) in
       let four = each_of is_shown third (releasing o m.nodeid m.handle) three (releasing_calm o m.nodeid m.handle) in
       let five = each_of test fourth (writing o m) (shown_pass test passes fourth four) writes in
-      each_of test fifth (act.Asks m.unique asked ∷ []) five (shown_pass test passes (act.Asks m.unique asked ∷ []) refl)
+      each_of test fifth (act.Asks m.unique asked ∷ []) five (and_from (test (act.Asks m.unique asked)) true asks refl)
 
 -- What is written is of WRITE.
 pub writing_passes : (test : Act → Bool) (m : RequestMessage) → list_all test (writing op.Write m) ≡ true → (o : Opcode)
@@ -101,7 +102,7 @@ module _ (k : Known) (bytes : List ℕ) (acts : List Act) where
     reads_one : nat_eq (code_of o) 36 ≡ false → acts ≡ act.Arrives ∷ act.Begins o ∷ asking o m (asked_of o m)
         → Does k.agreed bytes acts
     reads_one apart same = reads (other apart) (act.Arrives ∷ act.Begins o ∷ []) (behind o m (asked_of o m)) refl
-        (behind_passes is_calm is_calm_where_shown o m (asked_of o m) (writing_passes is_calm m refl o)) (Some o)
+        (behind_passes is_calm is_calm_where_shown o m (asked_of o m) (writing_passes is_calm m refl o) refl) (Some o)
         (same ∙ ap (λ (u : ℕ). act.Arrives ∷ act.Begins o ∷ act.Read (Some o) u ∷ behind o m (asked_of o m)) (sym is.unique))
 
     other_row : nat_eq (code_of o) 36 ≡ false → (again : Bool) → (k.has_resent && nat_le (2 ^ 63) m.unique) ≡ again

@@ -162,7 +162,7 @@ module _ (agreed : Agreed) (frame : List ℕ) (small : SmallFrame frame) where
   doing_short again op.Forget m is = refl
   doing_short again op.BatchForget m is = forgets_short (pairs_of_row (row_at op.BatchForget).tail m.tail)
   doing_short again o m is = either is_short again (resent o m) (asking o m (asked_of o m)) refl
-      (behind_passes is_short is_short_where_shown o m (asked_of o m) (written_short o m is))
+      (behind_passes is_short is_short_where_shown o m (asked_of o m) (written_short o m is) refl)
 
 request_free : (k : Known) (frame : List ℕ) (s : Session) (acts : List Act) → SmallFrame frame
     → AreRequestActs k frame acts → AreFree is_of_large_writes s acts

@@ -83,7 +83,7 @@ doing_other again op.NotifyReply m = refl
 doing_other again op.Forget m = refl
 doing_other again op.BatchForget m = forgets_other (pairs_of_row (row_at op.BatchForget).tail m.tail)
 doing_other again o m = either is_other again (resent o m) (asking o m (asked_of o m)) refl
-    (behind_passes is_other is_other_where_shown o m (asked_of o m) (writing_passes is_other m refl o))
+    (behind_passes is_other is_other_where_shown o m (asked_of o m) (writing_passes is_other m refl o) refl)
 
 begun_free : (s : Session) (o : Opcode) → (o ≡ op.Init → was_anything_read s ≡ false) → (f : Fault)
     → BreaksBeginning s o f → is_of_late_inits f ≡ true → ⊥

@@ -28,4 +28,10 @@ mod Stages
 mod Late
 mod WriteSizes
 mod Large
+mod Timely
+mod Unagreed
+mod Early
+mod InitReplies
+mod Outcomes
+mod BeforeInit
 pub mod Rules

@@ -79,7 +79,7 @@ doing_whole again op.NotifyReply m = refl
 doing_whole again op.Forget m = refl
 doing_whole again op.BatchForget m = forgets_whole (pairs_of_row (row_at op.BatchForget).tail m.tail)
 doing_whole again o m = either is_whole again (resent o m) (asking o m (asked_of o m)) refl
-    (behind_passes is_whole is_whole_where_shown o m (asked_of o m) (writing_passes is_whole m refl o))
+    (behind_passes is_whole is_whole_where_shown o m (asked_of o m) (writing_passes is_whole m refl o) refl)
 
 request_whole : (k : Known) (frame : List ℕ) (acts : List Act) → IsShaped frame → Carries k.agreed
     → AreRequestActs k frame acts → AreWhole acts

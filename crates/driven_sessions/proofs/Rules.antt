@@ -3,6 +3,7 @@ use Rattle.std.proofs.Common.{Bool, List}
 use Rattle.fuse_device.specs.Transfers.{Transfer}
 use Rattle.fk_drive.specs.Driving.{Driven, DrivesOver, first_driven}
 use Rattle.driven_sessions.specs.Rules.{KeepsRules}
+use Rattle.driven_sessions.proofs.BeforeInit.{early_requests_never}
 use Rattle.driven_sessions.proofs.Forgotten.{empty_forgets_never}
 use Rattle.driven_sessions.proofs.Large.{large_writes_never}
 use Rattle.driven_sessions.proofs.Late.{late_inits_never}
@@ -29,4 +30,5 @@ keeps_rules logs before after asks (new, (log, over, run)) = record {
   used_numbers = used_numbers_never asks log new run;
   late_inits = late_inits_never asks log new run;
   shapes = shapes_never asks log new run;
+  early_requests = early_requests_never asks log new run;
 }

@@ -22,7 +22,7 @@ use Rattle.driven_sessions.specs.Transfers.{AllSent, IsShaped}
 use Rattle.driven_sessions.proofs.Frames.{IsOwn, opendir_starts, releasedir_starts}
 use Rattle.driven_sessions.proofs.Sending.{run_sends}
 
-said_shaped : (frame : List ℕ) (r : Request) → SaysRequest frame r → IsShaped frame
+pub said_shaped : (frame : List ℕ) (r : Request) → SaysRequest frame r → IsShaped frame
 said_shaped frame r says agreed carries =
     let read = alike latest_minor agreed frame says.message carries says.spells in
     (opcode_in says.message.content, read.0, read.1)

@@ -69,7 +69,7 @@ Goes any count log new = InitsFirst any log × Stage (has_sent any log) count ne
 
 -- ---- while nothing was sent
 
-no_middle : {X : Type 0} (before after : List X) (x : X) → [] ≡ before ++ x ∷ after → ⊥
+pub no_middle : {X : Type 0} (before after : List X) (x : X) → [] ≡ before ++ x ∷ after → ⊥
 no_middle [] after x e = cc e
 no_middle (y ∷ before) after x e = cc e
 
@@ -181,7 +181,7 @@ module _ (any : Bool) (count : ℕ) (nothing_sent : any ≡ false) where
 
 -- ---- once INIT was read
 
-lists_no_init : (body : RequestBody) (node : ℕ) → ListsNode body node → is_init_body body ≡ false
+pub lists_no_init : (body : RequestBody) (node : ℕ) → ListsNode body node → is_init_body body ≡ false
 lists_no_init body node (readdir of after size) = refl
 lists_no_init body node (readdirplus of after size) = refl
 

@@ -57,11 +57,11 @@ mounted_waits k = record {
 
 -- ---- without its server
 
-may_if_ready : (b : Bool) (x : Result (Unit {0}) Refusal) → refusal_in (unless (not b) NotReady x) ≡ None → b ≡ true
+pub may_if_ready : (b : Bool) (x : Result (Unit {0}) Refusal) → refusal_in (unless (not b) NotReady x) ≡ None → b ≡ true
 may_if_ready true x may = refl
 may_if_ready false x may = cc may
 
-none_there : {X : Type 0} (m : Map X) (n : ℕ) (x : X) → m ≡ [] → get m n ≡ Some x → ⊥
+pub none_there : {X : Type 0} (m : Map X) (n : ℕ) (x : X) → m ≡ [] → get m n ≡ Some x → ⊥
 none_there m n x empty there = cc (empty, there)
 
 -- It waits on, or is not live any more.
@@ -173,11 +173,9 @@ no_forgets k count none = ap (λ (l : List Forget). nat_lt 0 count && (nat_le co
     by true true false some none = refl
     by true true true some none = grind (arith, nat_tests, some, none)
 
-pub read_waits : (k : Kernel) (pick : Pick) (r : Request) → OneEach k.queues → IsPicked k pick r → Waits k
-    → Passed 2 (after_pick k.queues pick)
-read_waits k Interrupt r one is w = cc (w.interrupts, is.first)
-read_waits k (Forgets count) r one is w =
-    absurd (by (forgets_singly k.minor && nat_lt 1 count) (can_read_forgets k.queues count) (no_forgets k count w.forgets) is.first)
+pub unread_forgets : (k : Kernel) (count : ℕ) (r : Request) → IsPicked k (Forgets count) r → k.queues.forgets ≡ [] → ⊥
+unread_forgets k count r is none =
+    by (forgets_singly k.minor && nat_lt 1 count) (can_read_forgets k.queues count) (no_forgets k count none) is.first
   where
     by : (c b : Bool) → b ≡ false → ◌≡◌ {A = Option (ℕ × List Forget)}
         (cond {A = Option (ℕ × List Forget)} c None (cond {A = Option (ℕ × List Forget)} b
@@ -185,6 +183,11 @@ read_waits k (Forgets count) r one is w =
     by true b none e = cc e
     by false true none e = false≢true (sym none)
     by false false none e = cc e
+
+pub read_waits : (k : Kernel) (pick : Pick) (r : Request) → OneEach k.queues → IsPicked k pick r → Waits k
+    → Passed 2 (after_pick k.queues pick)
+read_waits k Interrupt r one is w = cc (w.interrupts, is.first)
+read_waits k (Forgets count) r one is w = absurd (unread_forgets k count r is w.forgets)
 read_waits k (Pending place) r one is w = by (slice_get (pending k.queues) place) refl is.pending
   where
     once : (n : ℕ) (b : Bool) → n ≤ cond b 1 0 → n ≤ 1

@@ -13,6 +13,7 @@ use Rattle.fuse_sessions.specs.Faults.{HasFaultAt}
 use Rattle.fuse_sessions.specs.Frames.{IsSession, Lead, nothing_known}
 use Rattle.fuse_sessions.specs.Sessions.{Session}
 use Rattle.driven_sessions.specs.Transfers.{AreSaid}
+use Rattle.driven_sessions.specs.Taken.{AreTaken, outcomes_of}
 
 -- The kernel mounts once at most. A second mount over one connection begins again at the first number.
 abbrev pub IsOneMount : {old : Driven} {log : List Transfer} {new : Driven} → Drives old log new → Type 0
@@ -57,3 +58,14 @@ IsFreeWhereCarried group log = (ts : List Said) → AreSaid log ts → (k : Know
 abbrev pub NeverAccusedWhereCarried : (Fault → Bool) → Type 0
 NeverAccusedWhereCarried group = (asks : Bool) (log : List Transfer) (new : Driven) → Drives (first_driven asks) log new
     → IsFreeWhereCarried group log
+
+-- What went over a device shows none of a group of faults, where the session has of each frame what the kernel made of it.
+abbrev pub IsFreeWhereTaken : (Fault → Bool) → {old : Driven} {log : List Transfer} {new : Driven} → Drives old log new
+    → Type 0
+IsFreeWhereTaken group {log = log} run = (ts : List Said) → AreSaid log ts → (k : Known) (s : Session)
+    (is : IsSession (said.SeveralReaders ∷ ts) k s)
+    → AreTaken nothing_known [] (said.SeveralReaders ∷ ts) k s is (outcomes_of run) → ShowsNone group s
+
+abbrev pub NeverAccusedWhereTaken : (Fault → Bool) → Type 0
+NeverAccusedWhereTaken group = (asks : Bool) (log : List Transfer) (new : Driven) (run : Drives (first_driven asks) log new)
+    → IsFreeWhereTaken group run

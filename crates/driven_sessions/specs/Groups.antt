@@ -51,3 +51,8 @@ is_of_late_inits f = false
 abbrev pub is_of_large_writes : Fault → Bool
 is_of_large_writes fault.WriteTooLarge = true
 is_of_large_writes f = false
+
+-- A request comes before INIT's reply is accepted.
+abbrev pub is_of_early_requests : Fault → Bool
+is_of_early_requests fault.RequestBeforeInit = true
+is_of_early_requests f = false

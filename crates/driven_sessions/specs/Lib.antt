@@ -1,4 +1,5 @@
 pub mod Groups
 pub mod Transfers
+pub mod Taken
 pub mod Driven
 pub mod Rules

@@ -9,6 +9,6 @@ mod never_accused;
 
 pub use never_accused::{
     forgets_are_of_lookups, frames_are_requests, init_is_first, interrupts_have_their_numbers,
-    numbers_are_even, numbers_are_used_once, readers_are_several, requests_are_not_resent,
-    requests_are_whole, writes_are_small,
+    nothing_before_init, numbers_are_even, numbers_are_used_once, readers_are_several,
+    requests_are_not_resent, requests_are_whole, writes_are_small,
 };

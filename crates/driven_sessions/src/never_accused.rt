@@ -4,8 +4,8 @@ ghost use Rattle.std.specs.Prelude.{Bool, List};
 ghost use Rattle.fuse_device.specs.Transfers.{Transfer};
 ghost use Rattle.fk_drive.specs.Driving.{Driven, Drives, first_driven};
 ghost use Rattle.driven_sessions.specs.Transfers.{AllSent, IsShaped};
-ghost use Rattle.driven_sessions.specs.Driven.{NeverAccused, NeverAccusedMountedOnce, NeverAccusedWhereCarried};
-ghost use Rattle.driven_sessions.specs.Groups.{is_of_empty_forgets, is_of_interrupt_numbers, is_of_large_writes, is_of_late_inits, is_of_odd_numbers, is_of_one_thread, is_of_resends, is_of_shapes, is_of_used_numbers};
+ghost use Rattle.driven_sessions.specs.Driven.{NeverAccused, NeverAccusedMountedOnce, NeverAccusedWhereCarried, NeverAccusedWhereTaken};
+ghost use Rattle.driven_sessions.specs.Groups.{is_of_early_requests, is_of_empty_forgets, is_of_interrupt_numbers, is_of_large_writes, is_of_late_inits, is_of_odd_numbers, is_of_one_thread, is_of_resends, is_of_shapes, is_of_used_numbers};
 
 /// Each frame that is sent is a request of a row, under each agreement that carries the codec's frames: no extensions, names
 /// of 255 bytes, and a minor version from 12 on.
@@ -59,4 +59,10 @@ pub fn init_is_first()
 /// No WRITE has more bytes than were agreed on: none has more than 4,096, which each server takes.
 pub fn writes_are_small()
     ensures { NeverAccused is_of_large_writes }
+{}
+
+/// Nothing but INIT comes before its reply is accepted, however often the kernel mounts, where of each frame that the kernel
+/// accepted the session says so too, and that its request waited then.
+pub fn nothing_before_init()
+    ensures { NeverAccusedWhereTaken is_of_early_requests }
 {}
