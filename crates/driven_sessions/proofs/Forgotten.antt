@@ -117,7 +117,7 @@ no_names agreed [] are = refl
 no_names agreed (n ∷ names) are = absurd are
 
 -- What is read as its pairs is all that stands behind the struct.
-pairs_read : (agreed : Agreed) (bytes : List ℕ) (m : RequestMessage) → IsRequestOf agreed bytes (op.BatchForget, m)
+pub pairs_read : (agreed : Agreed) (bytes : List ℕ) (m : RequestMessage) → IsRequestOf agreed bytes (op.BatchForget, m)
     → (ps : List Forget) → number_at 40 4 bytes ≡ length ps → ReadsAs 48 (forget_ones ps) bytes
     → pairs_of_row (row_at op.BatchForget).tail m.tail ≡ ps
 pairs_read agreed bytes m is ps count stand =

@@ -1,11 +1,10 @@
 -- A frame that agrees as INIT's reply, and what it is in a session in which INIT waits for it.
-use Rattle.std.proofs.Common.{◌≡◌, ◌⊎◌, inl, inr, ℕ, ◌-◌, ◌==◌, ◌||◌, Bool, true, false, List, [], ◌∷◌, ◌++◌, length, Option, Some, None, refl, sym, ◌∙◌, ap, subst, arith}
+use Rattle.std.proofs.Common.{◌≡◌, ◌⊎◌, inl, inr, ℕ, ◌-◌, ◌==◌, true, List, ◌++◌, length, Option, Some, None, refl, sym, ◌∙◌, ap, subst, arith}
 use Rattle.std.specs.Prelude.{◌≢◌, MatchBool, ℤ, pos, negsuc}
 use Rattle.std.specs.List.{list_any}
 use Rattle.std.specs.Int.{cast_unsigned, w32}
 use Rattle.std.proofs.lemmas.Bool.{false≢true}
 use Rattle.std.proofs.lemmas.Int.{ints}
-use Rattle.std.proofs.lemmas.List.Folds.{list_any-append}
 use Rattle.fk_fields.specs.Fields.{number_at}
 use Rattle.fk_wire.specs.declared.opcode.Opcode.TheVariants as codec_op
 use Rattle.fk_wire.specs.Opcodes.{latest_minor}
@@ -26,7 +25,6 @@ use Rattle.fuse_replies.specs.Replies.{AnswerContent, IsFrame, IsReply, ReplyMes
 use Rattle.fuse_replies.specs.Replies as answer
 use Rattle.protocol_law.proofs.RepliedAlike.{replied_alike}
 use Rattle.fuse_sessions.specs.declared.act.Act.{Act}
-use Rattle.fuse_sessions.specs.declared.act.Act.TheVariants as act
 use Rattle.fuse_sessions.specs.declared.act.Asked.{Asked}
 use Rattle.fuse_sessions.specs.declared.act.Taken.TheVariants as taken
 use Rattle.fuse_sessions.specs.declared.known.Known.{Known}
@@ -37,7 +35,7 @@ use Rattle.fuse_sessions.specs.Sessions.{Session}
 use Rattle.fuse_sessions.specs.Waiting.{waits}
 use Rattle.fk_drive_frames.specs.Agreements.{IsHandedOn, IsOlderAgreement}
 use Rattle.driven_sessions.proofs.Early.{Agrees}
-use Rattle.driven_sessions.proofs.Unagreed.{is_init}
+use Rattle.driven_sessions.proofs.Unagreed.{agrees_last, is_init}
 
 -- The frame is a reply without an error under the first number, of as many bytes as a reply to INIT has.
 pub record IsInitReply (frame : List ℕ) : Type 0 where
@@ -120,15 +118,6 @@ module _ (k : Known) (bytes : List ℕ) (is : IsInitReply bytes) where
   says_init : (agreed : Agreed) (asked : ℕ) (m : ReplyMessage) → IsReply agreed shape.Init asked bytes m
       → m.answer ≡ answer.init (init_reply_at bytes)
   says_init agreed asked m reads = let zero = is.succeeds in sym reads.answer ∙ rw zero refl
-
-  agrees_last : (xs ys : List Act) (n : ℕ) → list_any agrees (xs ++ (ys ++ act.Agrees n ∷ [])) ≡ true
-  agrees_last xs ys n = list_any-append agrees xs (ys ++ act.Agrees n ∷ [])
-      ∙ ap (λ (b : Bool). list_any agrees xs || b) (list_any-append agrees ys (act.Agrees n ∷ []) ∙ or_true (list_any agrees ys))
-      ∙ or_true (list_any agrees xs)
-    where
-      or_true : (b : Bool) → (b || true) ≡ true
-      or_true true = refl
-      or_true false = refl
 
   -- As an accepted reply to INIT it agrees.
   of_init : (a : Asked) (acts : List Act) (later : Known) → IsReplyOf k bytes taken.Accepted op.Init a acts later

@@ -34,4 +34,16 @@ mod Early
 mod InitReplies
 mod Outcomes
 mod BeforeInit
+mod Gives
+mod Takes
+mod Asking
+mod Replying
+mod Asks
+mod Picking
+mod Telling
+mod Lookups
+mod Owing
+mod Heard
+mod Counting
+mod Counted
 pub mod Rules

@@ -45,7 +45,7 @@ is_of_readings fault.OddNumber = true
 is_of_readings fault.NumberUsedTwice = true
 is_of_readings f = false
 
-readings_within : (f : Fault) → is_of_readings f ≡ true → is_of_numbers f ≡ true
+pub readings_within : (f : Fault) → is_of_readings f ≡ true → is_of_numbers f ≡ true
 readings_within fault.OddNumber is = refl
 readings_within fault.NumberUsedTwice is = refl
 readings_within f is = cc

@@ -9,6 +9,8 @@ use Rattle.fuse_sessions.specs.declared.transfer.Transfer.{Transfer as Said}
 use Rattle.fuse_sessions.specs.declared.transfer.Transfer.TheVariants as said
 use Rattle.fuse_sessions.specs.Frames.{Lead}
 use Rattle.fuse_sessions.specs.Sessions.{Session}
+use Rattle.protocol_law.specs.Law.{Carries}
+use Rattle.driven_sessions.specs.Driven.{HaveAgreed}
 use Rattle.driven_sessions.specs.Taken.{AreTaken, Outcome, all_aside, aside, first_written, outcomes_after, outcomes_of, waiting, written}
 use Rattle.driven_sessions.specs.Transfers.{AreSaid}
 use Rattle.driven_sessions.proofs.Leading.{said_parts}
@@ -148,14 +150,16 @@ left_run old log new (behind before mid run last end step) ts is all =
     ∙ left_step mid last end step parts.last parts.said_more (outcomes_of run) all
 
 -- Of transfers in two parts: how they lead on, and what was taken.
-pub record TakenBy (k : Known) (s : Session) (first last : List Said) (later : Known) (all : Session) (os : List Outcome)
-    : Type 0 where
+pub record TakenBy (k : Known) (s : Session) (first last : List Said) (later : Known) (all : Session)
+    (leads : Lead k s (first ++ last) later all) (os : List Outcome) : Type 0 where
   pub known : Known
   pub session : Session
   pub before : Lead k s first known session
   pub behind : Lead known session last later all
   pub taken : AreTaken k s first known session before os
   pub taken_more : AreTaken known session last later all behind (left_by first os)
+  pub agreed : HaveAgreed Carries k s (first ++ last) later all leads
+      → HaveAgreed Carries k s first known session before × HaveAgreed Carries known session last later all behind
 
 none_taken : (k : Known) (s : Session) (ts : List Said) (later : Known) (all : Session) (leads : Lead k s ts later all)
     → AreTaken k s ts later all leads []
@@ -168,7 +172,7 @@ none_taken k s (said.Ended ∷ ts) later all (acts, known, are, leads) = none_ta
 
 pub taken_parts : (k : Known) (s : Session) (first last : List Said) (later : Known) (all : Session)
     (leads : Lead k s (first ++ last) later all) (os : List Outcome) → AreTaken k s (first ++ last) later all leads os
-    → TakenBy k s first last later all os
+    → TakenBy k s first last later all leads os
 taken_parts k s [] last later all leads os are = record {
   known = k;
   session = s;
@@ -176,6 +180,7 @@ taken_parts k s [] last later all leads os are = record {
   behind = leads;
   taken = tt;
   taken_more = are;
+  agreed = λ have. (tt, have);
 }
 taken_parts k s (said.Written bytes t ∷ first) last later all (acts, known, are, leads) [] taken =
     let rest = taken_parts known (s ++ acts) first last later all leads [] (none_taken known (s ++ acts) (first ++ last) later all leads) in
@@ -186,6 +191,7 @@ taken_parts k s (said.Written bytes t ∷ first) last later all (acts, known, ar
       behind = rest.behind;
       taken = tt;
       taken_more = none_taken rest.known rest.session last later all rest.behind;
+      agreed = λ have. let more = rest.agreed have.1 in ((have.0, more.0), more.1);
     }
 taken_parts k s (said.Written bytes t ∷ first) last later all (acts, known, are, leads) (o ∷ os) taken =
     let rest = taken_parts known (s ++ acts) first last later all leads os taken.1 in
@@ -196,6 +202,7 @@ taken_parts k s (said.Written bytes t ∷ first) last later all (acts, known, ar
       behind = rest.behind;
       taken = (taken.0, rest.taken);
       taken_more = rest.taken_more;
+      agreed = λ have. let more = rest.agreed have.1 in ((have.0, more.0), more.1);
     }
 taken_parts k s (said.Request bytes ∷ first) last later all (acts, known, are, leads) os taken =
     let rest = taken_parts known (s ++ acts) first last later all leads os taken in
@@ -206,6 +213,7 @@ taken_parts k s (said.Request bytes ∷ first) last later all (acts, known, are,
       behind = rest.behind;
       taken = rest.taken;
       taken_more = rest.taken_more;
+      agreed = λ have. let more = rest.agreed have.1 in ((have.0, more.0), more.1);
     }
 taken_parts k s (said.SeveralReaders ∷ first) last later all (acts, known, are, leads) os taken =
     let rest = taken_parts known (s ++ acts) first last later all leads os taken in
@@ -216,6 +224,7 @@ taken_parts k s (said.SeveralReaders ∷ first) last later all (acts, known, are
       behind = rest.behind;
       taken = rest.taken;
       taken_more = rest.taken_more;
+      agreed = λ have. let more = rest.agreed have.1 in ((have.0, more.0), more.1);
     }
 taken_parts k s (said.SeveralWriters ∷ first) last later all (acts, known, are, leads) os taken =
     let rest = taken_parts known (s ++ acts) first last later all leads os taken in
@@ -226,6 +235,7 @@ taken_parts k s (said.SeveralWriters ∷ first) last later all (acts, known, are
       behind = rest.behind;
       taken = rest.taken;
       taken_more = rest.taken_more;
+      agreed = λ have. let more = rest.agreed have.1 in ((have.0, more.0), more.1);
     }
 taken_parts k s (said.Ended ∷ first) last later all (acts, known, are, leads) os taken =
     let rest = taken_parts known (s ++ acts) first last later all leads os taken in
@@ -236,6 +246,7 @@ taken_parts k s (said.Ended ∷ first) last later all (acts, known, are, leads) 
       behind = rest.behind;
       taken = rest.taken;
       taken_more = rest.taken_more;
+      agreed = λ have. let more = rest.agreed have.1 in ((have.0, more.0), more.1);
     }
 
 -- ---- frames that wait

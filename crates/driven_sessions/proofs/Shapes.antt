@@ -101,7 +101,7 @@ releasedir_shaped bytes unique opened low is agreed carries =
       },
     )
 
-own_shaped : (bytes : List ℕ) (unique : ℕ) → unique < 2 ^ 63 → IsOwn bytes unique → IsShaped bytes
+pub own_shaped : (bytes : List ℕ) (unique : ℕ) → unique < 2 ^ 63 → IsOwn bytes unique → IsShaped bytes
 own_shaped bytes unique low (inl (node, is)) = opendir_shaped bytes unique node low is
 own_shaped bytes unique low (inr (opened, is)) = releasedir_shaped bytes unique opened low is
 

@@ -1,6 +1,6 @@
 -- A session in which INIT's reply is not accepted yet: INIT alone was asked, and frames are read as before any agreement.
 use Rattle.std.proofs.Common.{◌≡◌, inl, inr, ℕ, ◌^◌, ◌==◌, ◌||◌, ◌&&◌, Bool, true, false, cond, not, List, [], ◌∷◌, ◌++◌, Option, Some, None, filter, nat_eq, nat_le, refl, sym, ◌∙◌, ap, subst, arith}
-use Rattle.std.specs.Prelude.{MatchBool}
+use Rattle.std.specs.Prelude.{MatchOption}
 use Rattle.std.specs.Borrow.{Bor}
 use Rattle.std.specs.List.{list_all, list_any}
 use Rattle.std.specs.Map.{lookup}
@@ -118,7 +118,7 @@ or_true : (b : Bool) → (b || true) ≡ true
 or_true true = refl
 or_true false = refl
 
-agrees_last : (xs ys : List Act) (n : ℕ) → list_any is_agreement (xs ++ (ys ++ act.Agrees n ∷ [])) ≡ true
+pub agrees_last : (xs ys : List Act) (n : ℕ) → list_any is_agreement (xs ++ (ys ++ act.Agrees n ∷ [])) ≡ true
 agrees_last xs ys n = list_any-append is_agreement xs (ys ++ act.Agrees n ∷ [])
     ∙ ap (λ (b : Bool). list_any is_agreement xs || b)
     (list_any-append is_agreement ys (act.Agrees n ∷ []) ∙ or_true (list_any is_agreement ys))
@@ -180,7 +180,7 @@ go_on k s acts later was reads asks = record {
 pub judged_acts : (k : Known) (s : Session) (t : Said) (acts : List Act) (later : Known) → k.unjudged ≡ None
     → AreActs k s t acts later → AreReadActs k s t acts later
 judged_acts k s t acts later judged are = subst (λ (o : Option Unjudged).
-    Rattle.std.specs.Prelude.MatchOption o (AreReadActs k s t acts later) (λ why. (acts ≡ []) × (later ≡ k))) judged are
+    MatchOption o (AreReadActs k s t acts later) (λ why. (acts ≡ []) × (later ≡ k))) judged are
 
 module _ (k : Known) (s : Session) (was : Unagreed k s) (acts : List Act) (later : Known) where
   -- What a server writes agrees, or changes nothing.

@@ -2,4 +2,5 @@ pub mod Groups
 pub mod Transfers
 pub mod Taken
 pub mod Driven
+pub mod Counted
 pub mod Rules

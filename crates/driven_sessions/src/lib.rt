@@ -5,8 +5,10 @@
 //! exactly the faults of `Breaks`. Here the two are held against each other, group of faults by group.
 #![tactic(auto)]
 
+mod counted_lookups;
 mod never_accused;
 
+pub use counted_lookups::lookups_are_counted;
 pub use never_accused::{
     forgets_are_of_lookups, frames_are_requests, init_is_first, interrupts_have_their_numbers,
     nothing_before_init, numbers_are_even, numbers_are_used_once, readers_are_several,

@@ -1,0 +1,10 @@
+//! The lookups that a kernel counts, in a session of what it sends and receives.
+
+ghost use Rattle.driven_sessions.specs.Counted.{LookupsAreCounted};
+
+/// Each lookup of a node that the kernel counts, or has to forget, is counted in the session, in one mount: where of each frame
+/// that the kernel accepted the session says so too, and that its request waited then, and where it is judged to its end, by
+/// agreements that carry the codec's frames.
+pub fn lookups_are_counted()
+    ensures { LookupsAreCounted }
+{}
