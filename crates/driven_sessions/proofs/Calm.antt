@@ -44,6 +44,7 @@ is_of_numbers fault.InterruptUnderAnotherNumber = true
 is_of_numbers fault.InterruptTooOften = true
 is_of_numbers fault.ForgetOfTheRoot = true
 is_of_numbers fault.ForgetOfNoLookup = true
+is_of_numbers fault.ForgetOfMoreThanIsCounted = true
 is_of_numbers f = false
 
 -- an act that reads no request, again or not, interrupts none and forgets nothing, and is no such fault

@@ -29,10 +29,10 @@ use Rattle.driven_sessions.proofs.Telling.{IsOwnNumber, Tells, Tied, step_tells}
 use Rattle.driven_sessions.proofs.Within.{run_within}
 
 -- What is so between the steps.
-record RunCounts (id : ℕ) (asks : Bool) (all : List Outcome) (log : List Transfer) (new : Driven)
+pub record RunCounts (id : ℕ) (asks : Bool) (all : List Outcome) (log : List Transfer) (new : Driven)
     (run : Drives (first_driven asks) log new) (s : Session) : Type 0 where
-  tells : Tells (mounts_in run) new s
-  counts : Counts id (mounts_in run) (tally_of id run) all (outcomes_of run) new s
+  pub tells : Tells (mounts_in run) new s
+  pub counts : Counts id (mounts_in run) (tally_of id run) all (outcomes_of run) new s
 
 module _ (id : ℕ) (low : 2 ≤ id) (asks : Bool) (all : List Outcome) (k : Known) (s : Session)
     (first : s ≡ act.SeveralReaders ∷ []) (free : AreFree is_of_readings [] s) (none : (u : ℕ) → was_read s u ≡ false) where
@@ -48,7 +48,7 @@ module _ (id : ℕ) (low : 2 ≤ id) (asks : Bool) (all : List Outcome) (k : Kno
     counts = record { owed = 0; owes = (refl, refl); balance = omega arith; failing = tt };
   }
 
-  run_counts : (log : List Transfer) (new : Driven) (run : Drives (first_driven asks) log new) → mounts_in run ≤ 1
+  pub run_counts : (log : List Transfer) (new : Driven) (run : Drives (first_driven asks) log new) → mounts_in run ≤ 1
       → GoOn (outcomes_of run) all → (ts : List Said) → AreSaid log ts → (later : Known) (whole : Session)
       (leads : Lead k s ts later whole) → AreTaken k s ts later whole leads all → HaveAgreed Carries k s ts later whole leads
       → later.unjudged ≡ None → RunCounts id asks all log new run whole

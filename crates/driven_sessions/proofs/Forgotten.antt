@@ -69,7 +69,7 @@ spelled_again [] = refl
 spelled_again (f ∷ []) = refl
 spelled_again (f ∷ g ∷ fs) = refl
 
-picked_good : (k : Kernel) (pick : Pick) (r : Request) → Forgetting k → IsPicked k pick r → AreForgets (forgets_of r.body)
+pub picked_good : (k : Kernel) (pick : Pick) (r : Request) → Forgetting k → IsPicked k pick r → AreForgets (forgets_of r.body)
 picked_good k Interrupt r f is = subst AreForgets (sym (ap (λ (q : Request). forgets_of q.body) is.is)) tt
 picked_good k (Forgets count) r f is = subst AreForgets
     (sym (ap (λ (q : Request). forgets_of q.body) is.is ∙ spelled_again is.forgets))

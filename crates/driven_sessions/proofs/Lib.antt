@@ -46,4 +46,5 @@ mod Owing
 mod Heard
 mod Counting
 mod Counted
+mod LargeForgets
 pub mod Rules

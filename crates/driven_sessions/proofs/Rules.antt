@@ -6,6 +6,7 @@ use Rattle.driven_sessions.specs.Rules.{KeepsRules}
 use Rattle.driven_sessions.proofs.BeforeInit.{early_requests_never}
 use Rattle.driven_sessions.proofs.Forgotten.{empty_forgets_never}
 use Rattle.driven_sessions.proofs.Large.{large_writes_never}
+use Rattle.driven_sessions.proofs.LargeForgets.{large_forgets_never}
 use Rattle.driven_sessions.proofs.Late.{late_inits_never}
 use Rattle.driven_sessions.proofs.Low.{resends_never}
 use Rattle.driven_sessions.proofs.Malformed.{shapes_never}
@@ -31,4 +32,5 @@ keeps_rules logs before after asks (new, (log, over, run)) = record {
   late_inits = late_inits_never asks log new run;
   shapes = shapes_never asks log new run;
   early_requests = early_requests_never asks log new run;
+  large_forgets = large_forgets_never asks log new run;
 }

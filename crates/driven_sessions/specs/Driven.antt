@@ -69,3 +69,15 @@ IsFreeWhereTaken group {log = log} run = (ts : List Said) → AreSaid log ts →
 abbrev pub NeverAccusedWhereTaken : (Fault → Bool) → Type 0
 NeverAccusedWhereTaken group = (asks : Bool) (log : List Transfer) (new : Driven) (run : Drives (first_driven asks) log new)
     → IsFreeWhereTaken group run
+
+-- The same where each agreement of the session carries the codec's frames too.
+abbrev pub IsFreeWhereTakenAndCarried : (Fault → Bool) → {old : Driven} {log : List Transfer} {new : Driven}
+    → Drives old log new → Type 0
+IsFreeWhereTakenAndCarried group {log = log} run = (ts : List Said) → AreSaid log ts → (k : Known) (s : Session)
+    (is : IsSession (said.SeveralReaders ∷ ts) k s)
+    → AreTaken nothing_known [] (said.SeveralReaders ∷ ts) k s is (outcomes_of run)
+    → HaveAgreed Carries nothing_known [] (said.SeveralReaders ∷ ts) k s is → ShowsNone group s
+
+abbrev pub NeverAccusedMountedOnceWhereTaken : (Fault → Bool) → Type 0
+NeverAccusedMountedOnceWhereTaken group = (asks : Bool) (log : List Transfer) (new : Driven)
+    (run : Drives (first_driven asks) log new) → IsOneMount run → IsFreeWhereTakenAndCarried group run

@@ -56,3 +56,8 @@ is_of_large_writes f = false
 abbrev pub is_of_early_requests : Fault → Bool
 is_of_early_requests fault.RequestBeforeInit = true
 is_of_early_requests f = false
+
+-- A forget is of more lookups than are counted.
+abbrev pub is_of_large_forgets : Fault → Bool
+is_of_large_forgets fault.ForgetOfMoreThanIsCounted = true
+is_of_large_forgets f = false
