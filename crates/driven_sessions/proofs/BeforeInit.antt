@@ -105,13 +105,13 @@ module _ (all now : List Outcome) (new : Driven) (k : Known) (s : Session) (free
 
 -- A frame that agrees, and that was taken so, agrees in the session.
 accepted_agrees : (k : Known) (s : Session) (was : Unagreed k s) (b : Bor (List ℕ)) (t : Taken) (acts : List Act)
-    (later : Known) → AreActs k s (said.Written b t) acts later → IsTaken s b.now t (written Accepted) → AgreesFrame b.now
+    (later : Known) → AreActs k s (said.Written b t) acts later → IsTaken k s b.now t (written Accepted) → AgreesFrame b.now
     → list_any is_agreement acts ≡ true
 accepted_agrees k s was b t acts later are is agrees =
     let init : IsInitReply b.now = agreeing_init b.now agrees in
     written_agrees k b.now init s acts later
-    (λ none. is.1 (ap (λ (n : ℕ). waits_in s (request_number n)) init.under ∙ none)) (waits_init s was.asks 2)
-    (subst (λ (x : Taken). IsWritten k s b.now x acts later) is.0
+    (λ none. (is was.unjudged).1 (ap (λ (n : ℕ). waits_in s (request_number n)) init.under ∙ none)) (waits_init s was.asks 2)
+    (subst (λ (x : Taken). IsWritten k s b.now x acts later) (is was.unjudged).0
     (judged_acts k s (said.Written b t) acts later was.unjudged are))
 
 -- ---- a step
@@ -174,11 +174,11 @@ module _ (all now : List Outcome) (old : Driven) (k : Known) (s : Session) (free
       (written_one all (now ++ waiting ∷ []) (record old { waiting = old.waiting ++ frame ∷ [] }) k s free b t acts known are
       (λ no. early read is_early holds closed (written_on k s was acts known b t are no)
       (last_waits AgreesNot old.waiting frame now all wait goes (λ o more same accepted agrees. false≢true
-      (sym no ∙ accepted_agrees k s was b t acts known are (subst (IsTaken s b.now t) accepted
+      (sym no ∙ accepted_agrees k s was b t acts known are (subst (IsTaken k s b.now t) accepted
       (taken_first (left_of now all) o more same taken)) (subst AgreesFrame (sym is.0) agrees))))))
     where
       taken_first : (os : List Outcome) (o : Outcome) (more : List Outcome) → os ≡ o ∷ more
-          → AreTaken k s (said.Written b t ∷ []) later whole (acts, known, are, leads) os → IsTaken s b.now t o
+          → AreTaken k s (said.Written b t ∷ []) later whole (acts, known, are, leads) os → IsTaken k s b.now t o
       taken_first os o more same taken = (subst (AreTaken k s (said.Written b t ∷ []) later whole (acts, known, are, leads)) same
           taken).0
   received_goes read is_early frame goes ts is later whole leads taken = absurd search

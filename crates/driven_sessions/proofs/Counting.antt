@@ -288,7 +288,7 @@ module _ (id : ℕ) (low : 2 ≤ id) (count : ℕ) (t : Tally) (all now : List O
       }
     where
       taken_first : (os : List Outcome) (o : Outcome) (more : List Outcome) → os ≡ o ∷ more
-          → AreTaken k s (said.Written b u ∷ []) later whole (acts, known, are, leads) os → IsTaken s b.now u o
+          → AreTaken k s (said.Written b u ∷ []) later whole (acts, known, are, leads) os → IsTaken k s b.now u o
       taken_first os o more same taken = (subst (AreTaken k s (said.Written b u ∷ []) later whole (acts, known, are, leads)) same
           taken).0
   received_counts frame few goes ts is later whole leads taken agreed judged = absurd search

@@ -1,6 +1,6 @@
 -- An accepted frame of a server, in a session in which its request waits, gives what the codec reads in it.
 use Rattle.std.proofs.Common.{◌≡◌, inl, inr, ℕ, ◌-◌, ◌≤◌, ◌<◌, ◌%◌, ◌^◌, ◌==◌, Bool, true, false, cond, List, [], ◌∷◌, ◌++◌, length, Option, Some, None, nat_eq, refl, ap, sym, subst, ◌∙◌, arith}
-use Rattle.std.specs.Prelude.{MatchBool, MatchOption}
+use Rattle.std.specs.Prelude.{◌≢◌, MatchBool, MatchOption}
 use Rattle.std.specs.Borrow.{Bor}
 use Rattle.std.proofs.lemmas.Bool.{false≢true}
 use Rattle.std.proofs.lemmas.Bool.Decides.{nat_tests}
@@ -103,13 +103,13 @@ Adds id count kernel frame o g = o ≡ written Accepted → head_unique frame % 
 module _ (id : ℕ) (low : 2 ≤ id) (count : ℕ) (old : Driven) (k : Known) (s : Session) (tells : Tells count old s)
     (carries : Carries k.agreed) (judged : k.unjudged ≡ None) where
   pub heard_adds : (frame : List ℕ) (b : Bor (List ℕ)) → b.now ≡ frame → (t : Taken) (acts : List Act) (later : Known)
-      → AreActs k s (said.Written b t) acts later → (o : Outcome) → IsTaken s b.now t o
+      → AreActs k s (said.Written b t) acts later → (o : Outcome) → IsTaken k s b.now t o
       → Adds id count old.kernel frame o (gives id acts)
   heard_adds frame b same t acts later are o is accepted even less =
       by (waits s (head_unique frame)) refl
     where
-      told : IsTaken s b.now t (written Accepted)
-      told = subst (IsTaken s b.now t) accepted is
+      told : (t ≡ taken.Accepted) × (waits s (request_number (head_unique b.now)) ≢ None)
+      told = let so : IsTaken k s b.now t (written Accepted) = subst (IsTaken k s b.now t) accepted is in so judged
 
       number : number_in b.now ≡ head_unique frame
       number = ap (number_at 8 8) same

@@ -48,17 +48,18 @@ abbrev pub outcomes_of : {old : Driven} {log : List Transfer} {new : Driven} →
 outcomes_of nothing = []
 outcomes_of (next before mid run log new step) = outcomes_after step (outcomes_of run)
 
--- A frame that the kernel accepted was taken as accepted, while the request that it is for waited. So it came after its
--- request. Of any other frame nothing is said.
-abbrev pub IsTaken : Session → (frame : List ℕ) → Taken → Outcome → Type 0
-IsTaken s frame t (written Accepted) = (t ≡ taken.Accepted) × (waits_in s (request_number (head_unique frame)) ≢ None)
-IsTaken s frame t outcome = Unit {0}
+-- A frame that the kernel accepted was taken as accepted, while the request that it is for waited, as long as frames are
+-- judged. So it came after its request. Of any other frame nothing is said.
+abbrev pub IsTaken : Known → Session → (frame : List ℕ) → Taken → Outcome → Type 0
+IsTaken k s frame t (written Accepted) = k.unjudged ≡ None
+    → (t ≡ taken.Accepted) × (waits_in s (request_number (head_unique frame)) ≢ None)
+IsTaken k s frame t outcome = Unit {0}
 
 -- Of each frame that is written in a session this became, in order, and it was taken so.
 abbrev pub AreTaken : (k : Known) (s : Session) (ts : List Said) (later : Known) (all : Session) → Lead k s ts later all
     → List Outcome → Type 0
 AreTaken k s (said.Written bytes t ∷ ts) later all (acts, known, are, leads) (outcome ∷ outcomes) =
-    IsTaken s bytes.now t outcome × AreTaken known (s ++ acts) ts later all leads outcomes
+    IsTaken k s bytes.now t outcome × AreTaken known (s ++ acts) ts later all leads outcomes
 AreTaken k s (said.Written bytes t ∷ ts) later all leads [] = Unit {0}
 AreTaken k s [] later all leads outcomes = Unit {0}
 AreTaken k s (t ∷ ts) later all (acts, known, are, leads) outcomes = AreTaken known (s ++ acts) ts later all leads outcomes
