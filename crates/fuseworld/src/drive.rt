@@ -24,6 +24,7 @@ use fw_drive::{
     DriveTrace, Form, FreeFields, InputLines, Task, judge_script, read_script, run_drive,
     run_source,
 };
+use fw_expand::{ExpandedLines, expandable_script};
 use fw_json::JsonLines;
 use fw_judged::JudgedServer;
 use fw_orders::{Wanted, print_orders};
@@ -311,8 +312,8 @@ fn hex_number(text: &[u8]) -> u32 {
 enum Lines<'a> {
     /// A script whose lines are good.
     Script(&'a [u8]),
-    /// The same of a script in which calls have names.
-    Named(&'a [u8]),
+    /// The same of a script in which calls have names, or lines stand for several.
+    Short(&'a [u8]),
     /// Standard input, a line at a time.
     Input,
     /// What a seed chooses.
@@ -323,8 +324,9 @@ enum Lines<'a> {
     },
 }
 
-/// Runs lines in which calls may have names on a device, each once the one before was run, and gives the exit status.
-fn drive_named<D: Device, R: BufRead + Drop, W: Write, F: Write>(
+/// Runs lines in which calls may have names, and which may stand for several, on a device, each once the one before was run,
+/// and gives the exit status. Names go first, so that a line with one may stand for several too.
+fn drive_short<D: Device, R: BufRead + Drop, W: Write, F: Write>(
     rt: &HostRuntime,
     task: Task<'_>,
     device: &mut D,
@@ -335,7 +337,8 @@ fn drive_named<D: Device, R: BufRead + Drop, W: Write, F: Write>(
     ensures { Contains drive_statuses result }
 {
     let alloc = rt.alloc();
-    let mut lines = NamedLines::new(alloc, InputLines::new(input));
+    let named = NamedLines::new(alloc, InputLines::new(input));
+    let mut lines = ExpandedLines::new(alloc, task.form, named);
     run_source(alloc, task, device, &mut lines, out, faults)
 }
 
@@ -350,7 +353,7 @@ fn drive_input<D: Device, W: Write, F: Write>(
     ensures { Contains drive_statuses result }
 {
     match BufReader::new(rt.alloc(), rt.reader()) {
-        Ok(input) => drive_named(rt, task, device, input, out, faults),
+        Ok(input) => drive_short(rt, task, device, input, out, faults),
         Err(_) => no_memory(faults),
     }
 }
@@ -402,7 +405,7 @@ fn drive_device<D: Device, W: Write + Drop>(
             let mut input = script;
             run_drive(alloc, task, device, &mut input, &mut out, &mut faults)
         }
-        Lines::Named(script) => drive_named(rt, task, device, script, &mut out, &mut faults),
+        Lines::Short(script) => drive_short(rt, task, device, script, &mut out, &mut faults),
         Lines::Input => drive_input(rt, task, device, &mut out, &mut faults),
         Lines::Random {
             seed,
@@ -568,12 +571,22 @@ fn drive_place(
 #[derive(Drop)]
 struct GoodScript {
     text: Vec<u8>,
-    /// Whether calls have names in it.
-    has_names: bool,
+    /// Whether calls have names in it, or lines stand for several.
+    is_short: bool,
 }
 
-/// A script, once its lines were judged: by those of the plain script where calls have names in it.
+/// A text that was made of another, or else that.
+fn made_or<'a>(made: &'a Option<Vec<u8>>, text: &'a [u8]) -> &'a [u8] {
+    match made {
+        Some(made) => made.as_slice(),
+        None => text,
+    }
+}
+
+/// A script, once its lines were judged: by those of the plain script where calls have names in it, and by one line for
+/// each that stands for several.
 fn judged<F: Write>(
+    alloc: Global,
     task: Task<'_>,
     text: Vec<u8>,
     plain: Option<Vec<u8>>,
@@ -581,14 +594,14 @@ fn judged<F: Write>(
 ) -> Result<GoodScript, u8>
     ensures { IfErr result (Contains (1 ∷ 3 ∷ [])) }
 {
-    let lines = match &plain {
-        Some(plain) => plain.as_slice(),
-        None => text.as_slice(),
+    let lines = made_or(&plain, text.as_slice());
+    let Ok(single) = expandable_script(alloc, task.form, lines) else {
+        return Err(no_memory(faults));
     };
-    match judge_script(task, lines, faults) {
+    match judge_script(task, made_or(&single, lines), faults) {
         Ok(()) => Ok(GoodScript {
+            is_short: plain.is_some() || single.is_some(),
             text,
-            has_names: plain.is_some(),
         }),
         Err(status) => Err(status),
     }
@@ -608,7 +621,7 @@ fn good_script<R: Read, F: Write>(
         Err(status) => return Err(status),
     };
     match plain_script(alloc, text.as_slice()) {
-        Ok(plain) => judged(task, text, plain, faults),
+        Ok(plain) => judged(alloc, task, text, plain, faults),
         Err(_) => Err(no_memory(faults)),
     }
 }
@@ -668,8 +681,8 @@ fn drive_task_of(rt: &HostRuntime, asked: DriveTask<'_>, task: Task<'_>) -> u8
         return drive_lines(rt, asked, task, Lines::Input);
     }
     match script_of(rt, task) {
-        Ok(script) if script.has_names => {
-            drive_lines(rt, asked, task, Lines::Named(script.text.as_slice()))
+        Ok(script) if script.is_short => {
+            drive_lines(rt, asked, task, Lines::Short(script.text.as_slice()))
         }
         Ok(script) => drive_lines(rt, asked, task, Lines::Script(script.text.as_slice())),
         Err(status) => status,

@@ -7,7 +7,7 @@ ghost use Rattle.fw_call_names.specs.Naming.{call_begun, given_line, names_bound
 
 use crate::name::{CallName, NO_CALL};
 use crate::named::make_given;
-use fw_drive::{LineSource, NoLine, Standing};
+use fw_drive::{KernelView, LineSource, NoLine, Standing};
 use std::alloc::{AllocError, Allocator};
 use std::io::Write;
 
@@ -122,9 +122,10 @@ impl<S: LineSource<O> + Drop, A: Allocator + Copy, O: Write> LineSource<O> for N
     /// # Errors
     ///
     /// Why the other source gives none; or out of memory, and then the line that it gave is lost.
-    fn next_line<B: Allocator>(
+    fn next_line<B: Allocator, V: KernelView>(
         &mut self,
         standing: Standing,
+        kernel: &V,
         out: &mut O,
         line: &mut Vec<u8, B>,
     ) -> Result<bool, NoLine>
@@ -138,7 +139,7 @@ impl<S: LineSource<O> + Drop, A: Allocator + Copy, O: Write> LineSource<O> for N
         ensures begun { IfOk result (λ is_given. begun_of self.new.begun
             ≡ (if is_given then call_begun standing.next_call self.new.raw.items else begun_of self.old.begun)) }
     {
-        match self.source.next_line(standing, out, &mut self.raw) {
+        match self.source.next_line(standing, kernel, out, &mut self.raw) {
             Ok(true) => match self.give(standing.next_call, line) {
                 Ok(()) => Ok(true),
                 Err(_) => Err(NoLine::NoMemory),

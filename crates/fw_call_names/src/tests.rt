@@ -1,9 +1,39 @@
 //! Lines with names, and the lines that stand for them.
 
 use crate::{NamedLines, plain_script};
-use fw_drive::{InputLines, LineSource, Standing};
-use std::alloc::Global;
+use fuse_spec::Dentry;
+use fw_drive::{InputLines, KernelView, LineSource, Standing};
+use std::alloc::{AllocError, Global};
 use std::test::Fail;
+
+/// A kernel that has nothing.
+struct NoKernel;
+
+impl KernelView for NoKernel {
+    ghost use Rattle.std.specs.Prelude.{None};
+
+    ghost leads = { λ kernel directory name. None };
+
+    ghost drops = { λ kernel name. Unit {0} };
+
+    ghost evicts = { λ kernel. None };
+
+    fn cached_name(&self, _directory: u64, _name: &[u8]) -> Option<Dentry> {
+        None
+    }
+
+    fn first_cached_name(&self) -> Option<(u64, &[u8])> {
+        None
+    }
+
+    fn first_evictable(&self) -> Result<Option<u64>, AllocError> {
+        Ok(None)
+    }
+
+    fn listed_to(&self) -> Option<u64> {
+        None
+    }
+}
 
 /// What a kernel has whose next call gets this number.
 fn standing(next_call: u64) -> Standing {
@@ -24,7 +54,7 @@ fn given(alloc: Global, script: &[u8], next_calls: &[u64]) -> Result<Vec<u8>, Fa
     let mut line: Vec<u8> = Vec::new(alloc);
     let mut text = Vec::new(alloc);
     for next_call in next_calls {
-        if lines.next_line(standing(*next_call), &mut out, &mut line)? {
+        if lines.next_line(standing(*next_call), &NoKernel, &mut out, &mut line)? {
             text.extend_from_slice(line.as_slice())?;
             text.push(b'\n')?;
         }

@@ -11,3 +11,4 @@ pub mod Printing
 pub mod PrintingLaws
 pub mod Runs
 pub mod Sources
+pub mod Views

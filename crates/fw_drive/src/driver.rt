@@ -1,6 +1,6 @@
 //! A kernel and its connection to a server.
 
-ghost use Rattle.std.specs.Prelude.{◌≡◌, IfNone, IfOk, IfSome, List, OnErr, option_map, slice_get};
+ghost use Rattle.std.specs.Prelude.{◌≡◌, ◌↔◌, ◌≢◌, IfNone, IfOk, IfSome, IsTrue, List, OnErr, Some, option_map, slice_get};
 ghost use Rattle.fuse_spec.specs.Values.Maps.{remove};
 ghost use Rattle.fuse_device.specs.Transfers.{Transfer};
 ghost use Rattle.fk_syscalls.specs.Values.{answer_of};
@@ -11,18 +11,21 @@ ghost use Rattle.fw_world.specs.Values.{counted_nodes};
 ghost use Rattle.fw_drive.specs.Acts.{Acts};
 ghost use Rattle.fw_drive.specs.Moves.{Moves, sends, writes};
 ghost use Rattle.fw_drive.specs.Runs.{Keeps, at};
+ghost use Rattle.fw_drive.specs.Views as views;
+ghost use Rattle.fk_kernel.specs.Refused.{evict_refusal};
 
 use crate::acting::act;
 use crate::source::Standing;
+use crate::view::KernelView;
 use fk_drive::{
     Connection, DriveEnd, FreeFields, NotSent, Notes as FrameNotes, Written, send_next, write_next,
 };
 use fk_kernel::{Answer, KernelOf, Pick};
 use fuse_device::Device;
 use fuse_frames::RequestFrame;
-use fuse_spec::Refusal;
+use fuse_spec::{Dentry, Refusal};
 use fw_world::{Event, Outcome, Tables};
-use std::alloc::AllocError;
+use std::alloc::{AllocError, Allocator};
 use std::marker::Model;
 
 /// A kernel, its connection to a server, and what is said in fields that are free.
@@ -34,6 +37,22 @@ pub(crate) struct Driver<T: Tables> {
     free_fields: FreeFields,
     /// The number that the next call gets: the kernel numbers calls from 1 on, and a new mount goes on.
     next_call: u64,
+    /// The offset of the last name in the answer to the newest call.
+    listed_to: Option<u64>,
+}
+
+/// The offset of the last name that an answer lists.
+fn last_offset<A: Allocator>(answer: &Answer<A>) -> Option<u64>
+    ensures { result ≡ views.listed_to (answer_of answer.now) }
+{
+    let Answer::Listing(listing) = answer else {
+        return None;
+    };
+    let mut offset = None;
+    for listed in listing.iter() {
+        offset = Some(listed.offset);
+    }
+    offset
 }
 
 // What is driven, between requests.
@@ -60,6 +79,7 @@ impl<T: Tables> Driver<T> {
             connection: Connection::new(alloc, asks),
             free_fields,
             next_call: 1,
+            listed_to: None,
         }
     }
 
@@ -71,6 +91,7 @@ impl<T: Tables> Driver<T> {
             connection,
             free_fields: _,
             next_call: _,
+            listed_to: _,
         } = self;
         kernel.end();
         drop(connection);
@@ -93,6 +114,9 @@ impl<T: Tables> Driver<T> {
         ensures err { OnErr result (self.new.kernel ≡ self.old.kernel) }
         ensures same { self.new ≡ record self.old { kernel = self.new.kernel } }
     {
+        if matches!(event, Event::Call(_)) {
+            self.listed_to = None;
+        }
         match act(&mut self.kernel, event) {
             Ok(outcome) => {
                 if let Outcome::Begun { call } = outcome {
@@ -114,7 +138,11 @@ impl<T: Tables> Driver<T> {
         ensures none { IfNone result (self.new.kernel ≡ self.old.kernel) }
         ensures same { self.new ≡ record self.old { kernel = self.new.kernel } }
     {
-        self.kernel.collect()
+        let collected = self.kernel.collect();
+        if let Some((_, answer)) = &collected {
+            self.listed_to = last_offset(answer);
+        }
+        collected
     }
 
     /// Reads a request from the kernel, and sends it. What is not for the kernel is noted as it comes.
@@ -192,5 +220,50 @@ impl<T: Tables> Driver<T> {
         ensures { IfOk result (λ nodes. nodes.items ≡ counted_nodes self.now.kernel.nodes) }
     {
         self.kernel.nodes(self.alloc)
+    }
+}
+
+impl<T: Tables> Driver<T> {
+    /// Whether the kernel is mounted, and the connection is not aborted.
+    fn is_live(&self) -> bool
+        ensures { IsTrue result ↔ (evict_refusal self.now.kernel 0 ≢ Some Refusal.NotReady) }
+    {
+        self.kernel.evict_refusal(0) != Some(Refusal::NotReady)
+    }
+}
+
+impl<T: Tables> KernelView for Driver<T> {
+    ghost use Rattle.fuse_spec.specs.Values.Maps.{get_name};
+    ghost use Rattle.fw_drive.specs.Views.{IsDroppable, first_evictable};
+
+    ghost leads = { λ driver directory name. get_name driver.kernel.vfs.names (directory, name) };
+
+    ghost drops = { λ driver name. IsDroppable driver.kernel name };
+
+    ghost evicts = { λ driver. first_evictable driver.kernel };
+
+    fn cached_name(&self, directory: u64, name: &[u8]) -> Option<Dentry> {
+        self.kernel.cached_name(directory, name)
+    }
+
+    fn first_cached_name(&self) -> Option<(u64, &[u8])> {
+        if !self.is_live() {
+            return None;
+        }
+        self.kernel.first_cached_name()
+    }
+
+    fn first_evictable(&self) -> Result<Option<u64>, AllocError> {
+        let nodes = self.kernel.nodes(self.alloc)?;
+        for node in nodes.as_slice() {
+            if self.kernel.evict_refusal(node.0).is_none() {
+                return Ok(Some(node.0));
+            }
+        }
+        Ok(None)
+    }
+
+    fn listed_to(&self) -> Option<u64> {
+        self.listed_to
     }
 }

@@ -61,7 +61,7 @@ fn run_next<T: Tables, D: Device, S: LineSource<W>, W: Write>(
         driver.old driver.new [] number result lines
         × IfOk result (λ is_given. MatchBool is_given (length lines ≡ 1) ((lines ≡ []) × S.is_over source.new)) }
 {
-    match source.next_line(driver.standing(), out, line) {
+    match source.next_line(driver.standing(), &*driver, out, line) {
         Ok(true) => {
             let line = line.as_slice();
             match run_given_line(alloc, driver, device, notes, form, number, line, out) {

@@ -4,6 +4,7 @@ ghost use Rattle.std.specs.Prelude.{◌≡◌, ◌≢◌, ◌++◌, ◌∷◌, [
 ghost use Rattle.fw_drive.specs.Inputs.{IsTaken};
 
 use crate::source::{LineSource, NoLine, Standing};
+use crate::view::KernelView;
 use std::alloc::Allocator;
 use std::io::{BufRead, ErrorKind, Write};
 
@@ -66,9 +67,10 @@ impl<R: BufRead + Drop, O: Write> LineSource<O> for InputLines<R> {
 
     ghost is_over = { λ source. source.is_read ≡ true };
 
-    fn next_line<A: Allocator>(
+    fn next_line<A: Allocator, V: KernelView>(
         &mut self,
         _standing: Standing,
+        _kernel: &V,
         _out: &mut O,
         line: &mut Vec<u8, A>,
     ) -> Result<bool, NoLine> {

@@ -24,6 +24,7 @@ mod source;
 mod sourced;
 mod stop;
 mod trace;
+mod view;
 mod watch;
 
 pub use fk_drive::FreeFields;
@@ -33,3 +34,4 @@ pub use run::{Task, judge_script, read_script, run_drive};
 pub use source::{LineSource, NoLine, Standing};
 pub use sourced::run_source;
 pub use trace::DriveTrace;
+pub use view::KernelView;

@@ -3,6 +3,7 @@
 ghost use Rattle.std.specs.Prelude.{◌++◌, ◌∷◌, [], ℕ, IfOk, List, MatchBool};
 ghost use Rattle.std.specs.Io.KnownBytes.{Keeps as KeepsContents};
 
+use crate::view::KernelView;
 use fuse_spec::Refusal;
 use std::alloc::Allocator;
 use std::io::Write;
@@ -45,14 +46,16 @@ pub trait LineSource<O: Write> {
     // It has no more lines.
     ghost is_over: { Self → Type 0 };
 
-    /// Gives the next line, without a line feed, in place of what the buffer has. Says whether there was one.
+    /// Gives the next line, without a line feed, in place of what the buffer has. It may depend on what the kernel has that
+    /// is to run it. Says whether there was one.
     ///
     /// # Errors
     ///
     /// Where it cannot say what the next line is.
-    fn next_line<A: Allocator>(
+    fn next_line<A: Allocator, V: KernelView>(
         &mut self,
         standing: Standing,
+        kernel: &V,
         out: &mut O,
         line: &mut Vec<u8, A>,
     ) -> Result<bool, NoLine>

@@ -4,7 +4,7 @@ use crate::calls::{name_count, put_close, put_name_at};
 use crate::commented::Commented;
 use crate::rounds::Rounds;
 use crate::text::{put, put_number, word_at};
-use fw_drive::{LineSource, NoLine, Standing};
+use fw_drive::{KernelView, LineSource, NoLine, Standing};
 use std::alloc::Allocator;
 use std::io::Write;
 
@@ -458,9 +458,10 @@ impl<A: Allocator + Copy, W: Write + Drop, H: Allocator> LineSource<Commented<W,
     ghost is_over = { λ source. Unit {0} };
 
     /// Chooses the next line by what was printed since the one before, and prints it.
-    fn next_line<B: Allocator>(
+    fn next_line<B: Allocator, V: KernelView>(
         &mut self,
         standing: Standing,
+        _kernel: &V,
         out: &mut Commented<W, H>,
         line: &mut Vec<u8, B>,
     ) -> Result<bool, NoLine> {

@@ -1,0 +1,4 @@
+pub mod Expanding
+pub mod Given
+pub mod Scripts
+pub mod Walks
