@@ -20,8 +20,8 @@ from contextlib import contextmanager
 from pathlib import Path
 
 sys.dont_write_bytecode = True
-from drive_server import (BUGS, CREATE, FORGET, INIT, MKDIR, OPEN, OPENDIR, OPENDIR_BUGS, OPENING_BUGS, READDIR, RELEASEDIR, Server, agreement, received,
-                          reply, send)
+from drive_server import (BATCH_FORGET, BUGS, CREATE, FORGET, INIT, MKDIR, OPEN, OPENDIR, OPENDIR_BUGS, OPENING_BUGS, READDIR, READDIRPLUS,
+                          RELEASEDIR, Server, agreement, received, reply, send)
 import judging
 from judging import judge
 
@@ -632,6 +632,61 @@ def run_names():
         "line 10: bad number\n", 1))
 
 
+# --- lines that stand for several
+
+# Two files are looked up, in a directory and in the root. The server's nodes rise from 2, and counts each lookup.
+MADE = ["call mkdir /d", "call create /d/f", "call create /g", "call close 2", "call close 3"]
+MADE_LINES = ["mounted", "call 1", "answer 1 0", "call 2", "answer 2 0", "call 3", "answer 3 0", "call 4", "answer 4 0", "call 5", "answer 5 0"]
+FILES = [f"call create /{name}" for name in "abc"]
+
+
+def run_expanded():
+    """What a line that stands for several comes to is what the lines come to that it stands for."""
+    # Names go before nodes, those of the lowest directory first; a directory waits for its names.
+    single = ["drop 1 d", "drop 1 g", "drop 2 f", "evict 2", "evict 3", "evict 4"]
+    said = ["dropped", "dropped", "dropped", "evicted 2 1", "evicted 3 1", "evicted 4 1"]
+    for words in (["--calls"], ["--check", "--calls"]):
+        judge(f"evict all {words}", on_server(words, [*MADE, "evict all", "forget"])[:2], ([*MADE_LINES, *said, "kernel"], 0))
+        judge(f"its lines {words}", on_server(words, [*MADE, *single])[:2], ([*MADE_LINES, *said, "kernel"], 0))
+    judge("evict all, beside", on_server(["--beside"], [*MADE, "evict all", "evict all"])[:2],
+          ([*MADE_LINES, *said, "kernel", "answers 5 differ 0"], 0))
+    judge("evict PATH", on_server(["--calls"], [*MADE, "evict /d/f", "evict /d", "evict /d", "evict /none", "evict /d/f", "evict /"])[:2],
+          ([*MADE_LINES, "dropped", "evicted 3 1", "dropped", "evicted 2 1", *["refused 2 NoSuch"] * 4, "kernel 4:0:1"], 0))
+    # The name leads to no file.
+    judge("evict PATH of a missing name", on_server(["--calls"], ["call stat /none", "evict /none"])[:2],
+          (["mounted", "call 1", "answer 1 2", "refused 2 NoSuch", "kernel"], 0))
+    lines, status, requests = on_server(["--calls"], [*MADE, "evict all"])
+    forgotten = [pair for opcode, node, body in requests if opcode in (FORGET, BATCH_FORGET)
+                 for pair in ([(node, *struct.unpack("<Q", body))] if opcode == FORGET else struct.iter_unpack("<QQ", body[8:]))]
+    judge("each node is forgotten", forgotten, [(2, 1), (3, 1), (4, 1)])
+    # The K-th name of a directory has offset K: the first call lists all names, and the next none.
+    for call, counts in [("list", "2:0:1 3:0:1 4:0:1"), ("listplus", "2:0:2 3:0:2 4:0:2")]:
+        lines, status, requests = on_server(["--calls"], [*FILES, f"call {call} / all as All", "call stat /"])
+        judge(f"call {call} PATH all", (lines[7:], status),
+              (["call 4", "answer 4 0 a:1:file b:2:file c:3:file", "call 5", "answer 5 0", "call 6", "answer 6 0 dir 1 0 1", f"kernel {counts}"], 0))
+        judge(f"its offsets, {call}", [struct.unpack_from("<Q", body, 8)[0] for opcode, _, body in requests if opcode in (READDIR, READDIRPLUS)], [0, 3])
+    judge("a directory that is none", on_server(["--calls"], ["call list /none all", "call list / all"])[:2],
+          (["mounted", "call 1", "answer 1 2", "call 2", "answer 2 0", "kernel"], 0))
+    # Two forgets are read, one by one.
+    begun = [*MOUNT, "call create /a", "read p 0", "write", "call create /b", "read p 0", "write", "call close 1", "read p 0", "write",
+             "call close 2", "read p 0", "write"]
+    lines, status, requests = on_server([], [*begun, "evict all", "forget", "forget", "show"])
+    judge("forget", (lines[-8:], status), (["dropped", "dropped", "evicted 2 1", "evicted 3 1", "read 12 FORGET 48", "read 14 FORGET 48", "kernel", "kernel"], 0))
+    # An abort leaves nothing, and a later call is answered at once.
+    judge("an abort", on_server(["--calls"], [*MADE, "abort", "evict all", "evict /g", "call list / all"])[:2],
+          ([*MADE_LINES, "aborted", "refused 4 NotReady", "call 6", "answer 6 107", "kernel"], 0))
+    for words, script, said in [([], ["forget", "call list / all"], "line 2: bad number"), (["--calls"], ["evict all", "evict all all"], "line 2: wrong words"),
+                                (["--calls"], ["# evict all", "evict all", "evict d"], "line 3: bad number"),
+                                (["--calls"], ["call list / all", "forget", "call list \x7f all"], "line 3: bad text"),
+                                (["--calls"], ["evict /\x7f"], "line 1: bad number"), (["--calls"], ["forget 1"], "line 1: unknown event")]:
+        judge(f"{words} {script}", drive(words, script, answering(AGREES)), ([said], 1, None))
+    # Standard input: a bad line has the number of its own among the lines that are run.
+    for script, number in [([*MADE, "evict all", "forget", "read p 0"], 12), (["forget", "forget", "read p 0"], 1)]:
+        with served(["--calls"], ["unread"], Server().serve) as (command, _):
+            run = subprocess.run([*command[:-2], "-", command[-1]], input="".join(line + "\n" for line in script), capture_output=True, text=True, timeout=SECONDS)
+        judge(f"- {script}", (run.stderr, run.returncode), (f"line {number}: unknown event\n", 1))
+
+
 # --- lines as JSON objects
 
 def run_json():
@@ -686,7 +741,7 @@ def run_random():
     judge("a seed: a bug is found", (status, any(FAULTS.search(line) for line in lines)), (6, True))
 
 
-for part in (run_bugs, run_otherwise, run_fields, run_frames, run_abort, run_closings, run_agreements, run_opendir, run_opendir_bugs, run_releasedir, run_many, run_talking, run_refusals, run_waits, run_words, run_input, run_packets, run_trace, run_check, run_names, run_json, run_random):
+for part in (run_bugs, run_otherwise, run_fields, run_frames, run_abort, run_closings, run_agreements, run_opendir, run_opendir_bugs, run_releasedir, run_many, run_talking, run_refusals, run_waits, run_words, run_input, run_packets, run_trace, run_check, run_names, run_expanded, run_json, run_random):
     part()
 print(f"{judging.passed} passed, {judging.failed} failed")
 sys.exit(bool(judging.failed))

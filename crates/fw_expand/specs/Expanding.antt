@@ -1,5 +1,5 @@
 -- Lines of a script that stand for several, and the lines that they give.
-use Rattle.std.specs.Prelude.{◌≡◌, ◌≢◌, ◌⊎◌, ◌+◌, ◌-◌, ◌<◌, ◌++◌, ◌∷◌, ◌==◌, ◌&&◌, ◌||◌, [], ℕ, Bool, true, false, List, Option, Some, None, bytes_eq, codes, decimal, get_or, length, nat_le, take, if◌then◌else◌}
+use Rattle.std.specs.Prelude.{◌≡◌, ◌≢◌, ◌+◌, ◌-◌, ◌++◌, ◌∷◌, ◌==◌, ◌&&◌, ◌||◌, [], ℕ, Bool, true, false, List, Option, Some, None, bytes_eq, codes, decimal, get_or, length, nat_le, nat_lt, take, if◌then◌else◌}
 use Rattle.std.specs.List.{list_all}
 use Rattle.fw_script.specs.Words.{words_of}
 use Rattle.fw_drive.specs.declared.form.Form.{Form}
@@ -83,37 +83,46 @@ begun_as kind.ListAll leads of_calls raw = (list_line raw, rest.Listing 0)
 abbrev pub begun : Leads → (of_calls : Bool) → (raw : List ℕ) → List ℕ × Rest
 begun leads of_calls raw = begun_as (kind_of of_calls (words_of raw)) leads of_calls raw
 
+-- a cached name that a line can say, by its directory and itself
+abbrev pub sayable : Option (ℕ × List ℕ) → Option (ℕ × List ℕ)
+sayable None = None
+sayable (Some name) = if is_text name.1 && nat_lt 0 (length name.1) then Some name else None
+
 -- This node is evicted, and then others.
 abbrev pub Evicts : (evictable : Option ℕ) → (line : List ℕ) → Rest → Type 0
-Evicts evictable line next = (node : ℕ) × (evictable ≡ Some node) × (line ≡ evict_line node) × (next ≡ rest.Nodes)
+Evicts None line next = ⊥
+Evicts (Some node) line next = (line ≡ evict_line node) × (next ≡ rest.Nodes)
 
--- A name is dropped that a line can say, and then others.
-abbrev pub DropsName : (line : List ℕ) → Rest → Type 0
-DropsName line next = (directory : ℕ) × (name : List ℕ) × (is_text name ≡ true) × (0 < length name)
-    × (line ≡ drop_line directory name) × (next ≡ rest.Names)
+-- This name is dropped, and then others, or else a node is evicted.
+abbrev pub Drops : (droppable : Option (ℕ × List ℕ)) → (evictable : Option ℕ) → (line : List ℕ) → Rest → Type 0
+Drops None evictable line next = Evicts evictable line next
+Drops (Some name) evictable line next = (line ≡ drop_line name.0 name.1) × (next ≡ rest.Names)
 
--- The next line of those to come, and what is to come behind it, where a forget may be read or not, and this node may be
--- evicted, or none.
-abbrev pub Gives : (is_forgetting : Bool) → (evictable : Option ℕ) → (text : List ℕ) → Rest → (line : List ℕ) → Rest → Type 0
-Gives is_forgetting evictable text rest.Nothing line next = ⊥
-Gives is_forgetting evictable text rest.Line line next = (line ≡ text) × (next ≡ rest.Nothing)
-Gives is_forgetting evictable text (rest.Pair node) line next = (line ≡ text) × (next ≡ rest.Node node)
-Gives is_forgetting evictable text (rest.Node node) line next = (line ≡ evict_line node) × (next ≡ rest.Nothing)
-Gives is_forgetting evictable text rest.Forgets line next =
-    (is_forgetting ≡ true) × (line ≡ codes "read f 1") × (next ≡ rest.Forgets)
-Gives is_forgetting evictable text rest.Names line next = DropsName line next ⊎ Evicts evictable line next
-Gives is_forgetting evictable text rest.Nodes line next = Evicts evictable line next
-Gives is_forgetting evictable text (rest.Listing calls) line next = (offset : ℕ) × (calls ≡ 0 → offset ≡ 0)
+-- what a kernel has as a line is asked for: whether a forget may be read, a cached name that may be dropped and that a
+-- line can say, and a node that may be evicted
+abbrev pub Now : Type 0
+Now = Bool × Option (ℕ × List ℕ) × Option ℕ
+
+-- The next line of those to come, and what is to come behind it.
+abbrev pub Gives : Now → (text : List ℕ) → Rest → (line : List ℕ) → Rest → Type 0
+Gives now text rest.Nothing line next = ⊥
+Gives now text rest.Line line next = (line ≡ text) × (next ≡ rest.Nothing)
+Gives now text (rest.Pair node) line next = (line ≡ text) × (next ≡ rest.Node node)
+Gives now text (rest.Node node) line next = (line ≡ evict_line node) × (next ≡ rest.Nothing)
+Gives now text rest.Forgets line next = (now.0 ≡ true) × (line ≡ codes "read f 1") × (next ≡ rest.Forgets)
+Gives now text rest.Names line next = Drops now.1 now.2 line next
+Gives now text rest.Nodes line next = Evicts now.2 line next
+Gives now text (rest.Listing calls) line next = (offset : ℕ) × (calls ≡ 0 → offset ≡ 0)
     × (line ≡ text ++ decimal offset) × (next ≡ rest.Listing (calls + 1))
 
 -- No line is to come.
-abbrev pub IsOver : (is_forgetting : Bool) → (evictable : Option ℕ) → Rest → Type 0
-IsOver is_forgetting evictable rest.Nothing = Unit {0}
-IsOver is_forgetting evictable rest.Forgets = is_forgetting ≡ false
-IsOver is_forgetting evictable rest.Names = evictable ≡ None
-IsOver is_forgetting evictable rest.Nodes = evictable ≡ None
-IsOver is_forgetting evictable (rest.Listing calls) = calls ≢ 0
-IsOver is_forgetting evictable other = ⊥
+abbrev pub IsOver : Now → Rest → Type 0
+IsOver now rest.Nothing = Unit {0}
+IsOver now rest.Forgets = now.0 ≡ false
+IsOver now rest.Names = (now.1 ≡ None) × (now.2 ≡ None)
+IsOver now rest.Nodes = now.2 ≡ None
+IsOver now (rest.Listing calls) = calls ≢ 0
+IsOver now other = ⊥
 
 -- From what was to come the given lines stand for the raw ones: each raw line gives its lines, by the names that are
 -- cached as it begins, before the next raw line does.
@@ -121,10 +130,10 @@ pub data Expanded (of_calls : Bool) (text : List ℕ) (rest : Rest) : (raw given
     → Type 0 where
   no_line : Expanded of_calls text rest [] [] text rest
   begins : (raw given : List (List ℕ)) (had : List ℕ) (left : Rest) → Expanded of_calls text rest raw given had left
-      → (is_forgetting : Bool) (evictable : Option ℕ) → IsOver is_forgetting evictable left
-      → (leads : Leads) (line has : List ℕ) (next : Rest) → (has, next) ≡ begun leads of_calls line
+      → (is_forgetting : Bool) (name : Option (ℕ × List ℕ)) (node : Option ℕ)
+      → IsOver (is_forgetting, sayable name, node) left → (leads : Leads) (line has : List ℕ) (next : Rest) → (has, next) ≡ begun leads of_calls line
       → Expanded of_calls text rest (raw ++ line ∷ []) given has next
   gives : (raw given : List (List ℕ)) (had : List ℕ) (left : Rest) → Expanded of_calls text rest raw given had left
-      → (is_forgetting : Bool) (evictable : Option ℕ) (line : List ℕ) (next : Rest)
-      → Gives is_forgetting evictable had left line next
+      → (is_forgetting : Bool) (name : Option (ℕ × List ℕ)) (node : Option ℕ) (line : List ℕ) (next : Rest)
+      → Gives (is_forgetting, sayable name, node) had left line next
       → Expanded of_calls text rest raw (given ++ line ∷ []) had next

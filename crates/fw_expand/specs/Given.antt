@@ -22,17 +22,17 @@ expanded_in_turn of_calls text rest raw given mid mid_rest _ _ _ _ one no_line =
     subst (λ (l : List (List ℕ)). Expanded of_calls text rest l (given ++ []) mid mid_rest) (sym (append-nil raw))
     (subst (λ (l : List (List ℕ)). Expanded of_calls text rest raw l mid mid_rest) (sym (append-nil given)) one)
 expanded_in_turn of_calls text rest raw given mid mid_rest _ _ _ _ one
-    (begins more stand had left two is_forgetting evictable over leads line has next is) =
+    (begins more stand had left two is_forgetting name node over leads line has next is) =
     subst (λ (l : List (List ℕ)). Expanded of_calls text rest l (given ++ stand) has next) (append_assoc raw more (line ∷ []))
     (begins (raw ++ more) (given ++ stand) had left
-    (expanded_in_turn of_calls text rest raw given mid mid_rest more stand had left one two) is_forgetting evictable over
+    (expanded_in_turn of_calls text rest raw given mid mid_rest more stand had left one two) is_forgetting name node over
     leads line has next is)
 expanded_in_turn of_calls text rest raw given mid mid_rest _ _ _ _ one
-    (one_more more stand had left two is_forgetting evictable line next is) =
+    (one_more more stand had left two is_forgetting name node line next is) =
     subst (λ (l : List (List ℕ)). Expanded of_calls text rest (raw ++ more) l had next)
     (append_assoc given stand (line ∷ []))
     (one_more (raw ++ more) (given ++ stand) had left
-    (expanded_in_turn of_calls text rest raw given mid mid_rest more stand had left one two) is_forgetting evictable line
+    (expanded_in_turn of_calls text rest raw given mid mid_rest more stand had left one two) is_forgetting name node line
     next is)
 
 pub none_expanded : {S A : Type 0} (gives : S → S → List (List ℕ) → Type 0) → ((s : S) → gives s s [])

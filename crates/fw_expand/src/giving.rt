@@ -1,7 +1,8 @@
 //! The next line of those that are to come.
 
-ghost use Rattle.std.specs.Prelude.{◌≡◌, ◌≢◌, ◌⊎◌, ◌+◌, ◌++◌, ℕ, IfOk, MatchOption, None, codes, decimal, false, true};
-ghost use Rattle.fw_expand.specs.Expanding.{DropsName, Evicts, Gives, IsOver};
+ghost use Rattle.std.specs.Prelude.{◌≡◌, ◌≢◌, ◌+◌, ◌++◌, ℕ, IfOk, List, MatchOption, None, Option, codes, decimal, false, option_map, true};
+ghost use Rattle.fw_expand.specs.Expanding as expanding;
+ghost use Rattle.fw_expand.specs.Expanding.{Drops, Evicts, Gives, IsOver, Now};
 ghost use Rattle.fw_expand.specs.declared.rest.Rest.TheVariants as rest;
 
 use crate::kind::is_text;
@@ -28,6 +29,17 @@ fn give_forget<B: Allocator>(
     Ok(Some(Rest::Forgets))
 }
 
+/// A cached name that a line can say. No line can say some names, which a server listed.
+fn sayable(name: Option<(u64, &[u8])>) -> Option<(u64, &[u8])>
+    ensures { option_map (λ name. (name.0, name.1.now)) result
+        ≡ expanding.sayable (option_map (λ name. (name.0, name.1.now)) name.entry) }
+{
+    match name {
+        Some((directory, name)) if is_text(name) && !name.is_empty() => Some((directory, name)),
+        _ => None,
+    }
+}
+
 /// While a node may be evicted, it is.
 fn give_node<V: KernelView, B: Allocator>(
     kernel: &V,
@@ -45,21 +57,22 @@ fn give_node<V: KernelView, B: Allocator>(
     }
 }
 
-/// While a cached name may be dropped, it is, and then while a node may be evicted, it is. No line can say some names, which
-/// a server listed: the first of these ends the names.
+/// While a cached name may be dropped, it is, and then while a node may be evicted, it is.
 fn give_name<V: KernelView, B: Allocator>(
     kernel: &V,
+    name: Option<(u64, &[u8])>,
     line: &mut Vec<u8, B>,
 ) -> Result<Option<Rest>, AllocError>
-    ensures { IfOk result (λ next. MatchOption next (V.evicts kernel.now ≡ None)
-        (λ left. DropsName line.new.items left ⊎ Evicts (V.evicts kernel.now) line.new.items left)) }
+    ensures { let droppable = option_map (λ name. (name.0, name.1.now)) name.entry in
+        IfOk result (λ next. MatchOption next ((droppable ≡ None) × (V.evicts kernel.now ≡ None))
+        (Drops droppable (V.evicts kernel.now) line.new.items)) }
 {
-    match kernel.first_cached_name() {
-        Some((directory, name)) if !name.is_empty() && is_text(name) => {
+    match name {
+        Some((directory, name)) => {
             put_drop(line, directory, name)?;
             Ok(Some(Rest::Names))
         }
-        _ => give_node(kernel, line),
+        None => give_node(kernel, line),
     }
 }
 
@@ -90,9 +103,11 @@ pub(crate) fn give<V: KernelView, B: Allocator>(
     rest: Rest,
     line: &mut Vec<u8, B>,
 ) -> Result<Option<Rest>, AllocError>
-    ensures { IfOk result (λ next. MatchOption next (IsOver is_forgetting (V.evicts kernel.now) rest)
-        (λ left. Gives is_forgetting (V.evicts kernel.now) text.now rest line.new.items left)) }
+    ensures { (name : Option (ℕ × List ℕ)) × V.drops kernel.now name
+        × (let now : Now = (is_forgetting, expanding.sayable name, V.evicts kernel.now) in
+        IfOk result (λ next. MatchOption next (IsOver now rest) (Gives now text.now rest line.new.items))) }
 {
+    let name = sayable(kernel.first_cached_name());
     match rest {
         Rest::Nothing => Ok(None),
         Rest::Line => {
@@ -108,7 +123,7 @@ pub(crate) fn give<V: KernelView, B: Allocator>(
             Ok(Some(Rest::Nothing))
         }
         Rest::Forgets => give_forget(is_forgetting, line),
-        Rest::Names => give_name(kernel, line),
+        Rest::Names => give_name(kernel, name, line),
         Rest::Nodes => give_node(kernel, line),
         Rest::Listing(calls) => give_listing(kernel, text, calls, line),
     }

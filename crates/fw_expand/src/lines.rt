@@ -1,9 +1,9 @@
 //! A source of lines, for one whose lines may stand for several.
 
-ghost use Rattle.std.specs.Prelude.{◌≡◌, ◌∷◌, [], IfOk, MatchBool};
+ghost use Rattle.std.specs.Prelude.{◌≡◌, ◌∷◌, [], ℕ, IfOk, List, MatchBool, Option};
 ghost use Rattle.std.specs.Io.KnownBytes.{Keeps as KeepsContents};
 ghost use Rattle.fw_expand.specs.Expanding as expanding;
-ghost use Rattle.fw_expand.specs.Expanding.{Gives, IsOver, begun};
+ghost use Rattle.fw_expand.specs.Expanding.{Gives, IsOver, Now, begun};
 ghost use Rattle.fw_expand.specs.declared.rest.Rest.TheVariants.{Nothing};
 
 use crate::beginning::begin;
@@ -71,9 +71,11 @@ impl<S: Drop, A: Allocator + Copy> ExpandedLines<S, A> {
         kernel: &V,
         line: &mut Vec<u8, B>,
     ) -> Result<bool, AllocError>
-        ensures given { IfOk result (λ is_given. MatchBool is_given
-            (Gives standing.is_forgetting (V.evicts kernel.now) self.old.text.items self.old.rest line.new.items self.new.rest)
-            (IsOver standing.is_forgetting (V.evicts kernel.now) self.old.rest × (self.new.rest ≡ self.old.rest))) }
+        ensures given { (name : Option (ℕ × List ℕ)) × V.drops kernel.now name
+            × (let now : Now = (standing.is_forgetting, expanding.sayable name, V.evicts kernel.now) in
+            IfOk result (λ is_given. MatchBool is_given
+            (Gives now self.old.text.items self.old.rest line.new.items self.new.rest)
+            (IsOver now self.old.rest × (self.new.rest ≡ self.old.rest)))) }
         ensures same { (self.new.source ≡ self.old.source) × (self.new.text.items ≡ self.old.text.items)
             × (self.new.is_of_calls ≡ self.old.is_of_calls) }
     {
