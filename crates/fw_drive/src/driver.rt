@@ -20,7 +20,7 @@ use crate::view::KernelView;
 use fk_drive::{
     Connection, DriveEnd, FreeFields, NotSent, Notes as FrameNotes, Written, send_next, write_next,
 };
-use fk_kernel::{Answer, KernelOf, Pick};
+use fk_kernel::{Answer, KernelOf, Listing, Pick};
 use fuse_device::Device;
 use fuse_frames::RequestFrame;
 use fuse_spec::{Dentry, Refusal};
@@ -41,18 +41,25 @@ pub(crate) struct Driver<T: Tables> {
     listed_to: Option<u64>,
 }
 
-/// The offset of the last name that an answer lists.
-fn last_offset<A: Allocator>(answer: &Answer<A>) -> Option<u64>
-    ensures { result ≡ views.listed_to (answer_of answer.now) }
+/// The offset of the last of the names that a directory lists.
+fn last_offset<A: Allocator>(names: &Listing<A>) -> Option<u64>
+    ensures { result ≡ views.last_offset names.now }
 {
-    let Answer::Listing(listing) = answer else {
-        return None;
-    };
     let mut offset = None;
-    for listed in listing.iter() {
+    for listed in names.iter() {
         offset = Some(listed.offset);
     }
     offset
+}
+
+/// The offset of the last name that an answer lists.
+fn listed_to<A: Allocator>(answer: &Answer<A>) -> Option<u64>
+    ensures { result ≡ views.listed_to (answer_of answer.now) }
+{
+    match answer {
+        Answer::Listing(names) => last_offset(names),
+        _ => None,
+    }
 }
 
 // What is driven, between requests.
@@ -140,7 +147,7 @@ impl<T: Tables> Driver<T> {
     {
         let collected = self.kernel.collect();
         if let Some((_, answer)) = &collected {
-            self.listed_to = last_offset(answer);
+            self.listed_to = listed_to(answer);
         }
         collected
     }
