@@ -12,10 +12,13 @@ abbrev pub IsDroppable : Kernel → Option (ℕ × Name) → Type 0
 IsDroppable kernel None = (directory : ℕ) (name : Name) → drop_refusal kernel directory name ≢ None
 IsDroppable kernel (Some name) = drop_refusal kernel name.0 name.1 ≡ None
 
+-- the first of these nodes that may be evicted, each with its generation and its count
+abbrev pub first_unused : Kernel → List (ℕ × ℕ × ℕ) → Option ℕ
+first_unused kernel nodes = find (λ node. is_none (evict_refusal kernel node)) (map (λ node. node.0) nodes)
+
 -- the first counted node that may be evicted
 abbrev pub first_evictable : Kernel → Option ℕ
-first_evictable kernel =
-    find (λ node. is_none (evict_refusal kernel node)) (map (λ node. node.0) (counted_nodes kernel.nodes))
+first_evictable kernel = first_unused kernel (counted_nodes kernel.nodes)
 
 -- ---- the names that an answer lists
 

@@ -1,6 +1,6 @@
 //! A kernel and its connection to a server.
 
-ghost use Rattle.std.specs.Prelude.{◌≡◌, ◌↔◌, ◌≢◌, IfNone, IfOk, IfSome, IsTrue, List, OnErr, Some, option_map, slice_get};
+ghost use Rattle.std.specs.Prelude.{◌≡◌, IfNone, IfOk, IfSome, List, OnErr, option_map, slice_get};
 ghost use Rattle.fuse_spec.specs.Values.Maps.{remove};
 ghost use Rattle.fuse_device.specs.Transfers.{Transfer};
 ghost use Rattle.fk_syscalls.specs.Values.{answer_of};
@@ -12,7 +12,7 @@ ghost use Rattle.fw_drive.specs.Acts.{Acts};
 ghost use Rattle.fw_drive.specs.Moves.{Moves, sends, writes};
 ghost use Rattle.fw_drive.specs.Runs.{Keeps, at};
 ghost use Rattle.fw_drive.specs.Views as views;
-ghost use Rattle.fk_kernel.specs.Refused.{evict_refusal};
+ghost use Rattle.fuse_spec.specs.Kernel.Kernel.{is_live as is_live_phase};
 
 use crate::acting::act;
 use crate::source::Standing;
@@ -21,9 +21,11 @@ use fk_drive::{
     Connection, DriveEnd, FreeFields, NotSent, Notes as FrameNotes, Written, send_next, write_next,
 };
 use fk_kernel::{Answer, KernelOf, Listing, Pick};
+use fk_lookup_count::CountTable;
+use fk_queues::QueueTable;
 use fuse_device::Device;
 use fuse_frames::RequestFrame;
-use fuse_spec::{Dentry, Refusal};
+use fuse_spec::{Dentry, Purpose, Refusal};
 use fw_world::{Event, Outcome, Tables};
 use std::alloc::{AllocError, Allocator};
 use std::marker::Model;
@@ -60,6 +62,21 @@ fn listed_to<A: Allocator>(answer: &Answer<A>) -> Option<u64>
         Answer::Listing(names) => last_offset(names),
         _ => None,
     }
+}
+
+/// The first of these nodes that may be evicted.
+fn first_unused<Q: QueueTable<Purpose> + Drop, C: CountTable<Heap = Q::Heap> + Drop>(
+    kernel: &KernelOf<Q, C>,
+    nodes: &[(u64, u64, u64)],
+) -> Option<u64>
+    ensures { result ≡ views.first_unused kernel.now nodes.now }
+{
+    for node in nodes {
+        if kernel.evict_refusal(node.0).is_none() {
+            return Some(node.0);
+        }
+    }
+    None
 }
 
 // What is driven, between requests.
@@ -233,9 +250,9 @@ impl<T: Tables> Driver<T> {
 impl<T: Tables> Driver<T> {
     /// Whether the kernel is mounted, and the connection is not aborted.
     fn is_live(&self) -> bool
-        ensures { IsTrue result ↔ (evict_refusal self.now.kernel 0 ≢ Some Refusal.NotReady) }
+        ensures { result ≡ is_live_phase self.now.kernel.phase }
     {
-        self.kernel.evict_refusal(0) != Some(Refusal::NotReady)
+        !matches!(self.kernel.evict_refusal(0), Some(Refusal::NotReady))
     }
 }
 
@@ -262,12 +279,7 @@ impl<T: Tables> KernelView for Driver<T> {
 
     fn first_evictable(&self) -> Result<Option<u64>, AllocError> {
         let nodes = self.kernel.nodes(self.alloc)?;
-        for node in nodes.as_slice() {
-            if self.kernel.evict_refusal(node.0).is_none() {
-                return Ok(Some(node.0));
-            }
-        }
-        Ok(None)
+        Ok(first_unused(&self.kernel, nodes.as_slice()))
     }
 
     fn listed_to(&self) -> Option<u64> {
