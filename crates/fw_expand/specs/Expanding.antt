@@ -131,7 +131,8 @@ pub data Expanded (of_calls : Bool) (text : List ℕ) (rest : Rest) : (raw given
   no_line : Expanded of_calls text rest [] [] text rest
   begins : (raw given : List (List ℕ)) (had : List ℕ) (left : Rest) → Expanded of_calls text rest raw given had left
       → (is_forgetting : Bool) (name : Option (ℕ × List ℕ)) (node : Option ℕ)
-      → IsOver (is_forgetting, sayable name, node) left → (leads : Leads) (line has : List ℕ) (next : Rest) → (has, next) ≡ begun leads of_calls line
+      → IsOver (is_forgetting, sayable name, node) left → (leads : Leads) (line has : List ℕ) (next : Rest)
+      → (has, next) ≡ begun leads of_calls line
       → Expanded of_calls text rest (raw ++ line ∷ []) given has next
   gives : (raw given : List (List ℕ)) (had : List ℕ) (left : Rest) → Expanded of_calls text rest raw given had left
       → (is_forgetting : Bool) (name : Option (ℕ × List ℕ)) (node : Option ℕ) (line : List ℕ) (next : Rest)
