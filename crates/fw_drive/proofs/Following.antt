@@ -29,6 +29,7 @@ use Rattle.fw_drive.specs.Printed.{Gets, GetsAt, IsLineOf, IsTextOf, next_text, 
 use Rattle.fw_drive.specs.Runs.{Collects, EndsAs, Goes, GoesAlone, IsOwnStop, IsUnprinted, Keeps, IsStatusOf, IsStopStatus, NothingOver, RunsScript, SaysStop, StopsAt, at, by_itself, at_end, stop_of}
 use Rattle.fw_script.specs.Scripts.{lines_of}
 use Rattle.fw_drive.specs.Judging.{Say}
+use Rattle.fw_drive.specs.declared.fault.Unanswered.{Unanswered}
 use Rattle.fw_drive.specs.declared.form.Form.{Form}
 use Rattle.fw_drive.specs.declared.line.DriveLine.{DriveLine}
 use Rattle.fw_drive.specs.declared.line.DriveLine.TheVariants as line
@@ -727,10 +728,10 @@ pub runs_script : (A : Type 0) {D : Type 0} (logs : D → D → List Transfer �
     (had : Option (List ℕ)) (got : Told) (has : Option (List ℕ)) (f : Form) (asks is_report_only : Bool) (script : List ℕ)
     (said given_lines : List DriveLine) → given_lines ≡ said → Say f (lines_of script) said → (r : Result (Unit {0}) Stop)
     (status : ℕ) → OnOk r (status ≡ end_status is_report_only got.1) → IfErr r (λ stop. IsStopStatus stop status)
-    → SaysStop A r status got.0 has
+    → (unanswered : Option Unanswered) → SaysStop A unanswered r status got.0 has
     → (last : Driven) × Goes A logs f d e (had, false) got (first_driven asks) last r (LinesMoveAs f r (all_lines f given_lines))
     → RunsScript A logs d e had has f asks is_report_only status script
-runs_script A logs d e had got has f asks is_report_only script said given_lines same say r status ok err says (last, goes) =
+runs_script A logs d e had got has f asks is_report_only script said given_lines same say r status ok err unanswered says (last, goes) =
     let all =
     subst (λ (l : List DriveLine). Goes A logs f d e (had, false) got (first_driven asks) last r (LinesMoveAs f r (all_lines f l)))
     same goes in record {
@@ -741,5 +742,6 @@ runs_script A logs d e had got has f asks is_report_only script said given_lines
       got = got;
       goes = all;
       is = status_is is_report_only got.1 all.moves r status all.told ok err;
+      waits = unanswered;
       says = says;
     }

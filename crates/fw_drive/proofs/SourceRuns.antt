@@ -16,6 +16,7 @@ use Rattle.fw_drive.specs.LineMoves.{FirstThen, IsMoveOf, LinesMove, MayFollow, 
 use Rattle.fw_drive.specs.Moves.{Move}
 use Rattle.fw_drive.specs.Runs.{Goes, IsOwnStop, IsUnprinted}
 use Rattle.fw_drive.specs.Sources.{AllButLastMove, EndsRun, Gave, Ran, RanUpTo, RunsAll, RunsFrom, RunsGiven, RunsSource, RunsToEnd}
+use Rattle.fw_drive.specs.declared.fault.Unanswered.{Unanswered}
 use Rattle.fw_drive.specs.declared.form.Form.{Form}
 use Rattle.fw_drive.specs.declared.form.Form.TheVariants as form
 use Rattle.fw_drive.specs.declared.halt.Halt.{Halt}
@@ -221,49 +222,49 @@ module _ (A : Type 0) {D : Type 0} (logs : D → D → List Transfer → Type 0)
 
 -- ---- statuses
 
-pub halt_among : (A : Type 0) (name : List ℕ) (is_report_only : Bool) (moves : List (Move A)) (halt : Halt) (s : ℕ)
+pub halt_among : (A : Type 0) (waits : Option Unanswered) (name : List ℕ) (is_report_only : Bool) (moves : List (Move A)) (halt : Halt) (s : ℕ)
     (had has fault_had fault_has : Option (List ℕ))
-    → EndsRun A name is_report_only moves (Err halt) s had has fault_had fault_has → Contains (0 ∷ 1 ∷ 3 ∷ 4 ∷ 5 ∷ 6 ∷ []) s
-halt_among A name only moves (halts.BadLine number fault) s had has fault_had fault_has (is, same, said) = (1, omega arith, sym is)
-halt_among A name only moves (halts.NoLine no_lines.CannotRead) s had has fault_had fault_has (is, same, said) = (1, omega arith, sym is)
-halt_among A name only moves (halts.NoLine no_lines.NoMemory) s had has fault_had fault_has (is, same, said) = (2, omega arith, sym is)
-halt_among A name only moves (halts.NoLine no_lines.OutputRefused) s had has fault_had fault_has (is, same, said) = (4, omega arith, sym is)
-halt_among A name only moves (halts.NoLine (no_lines.Refused refusal)) s had has fault_had fault_has (is, written, memory, rest) =
+    → EndsRun A waits name is_report_only moves (Err halt) s had has fault_had fault_has → Contains (0 ∷ 1 ∷ 3 ∷ 4 ∷ 5 ∷ 6 ∷ []) s
+halt_among A waits name only moves (halts.BadLine number fault) s had has fault_had fault_has (is, same, said) = (1, omega arith, sym is)
+halt_among A waits name only moves (halts.NoLine no_lines.CannotRead) s had has fault_had fault_has (is, same, said) = (1, omega arith, sym is)
+halt_among A waits name only moves (halts.NoLine no_lines.NoMemory) s had has fault_had fault_has (is, same, said) = (2, omega arith, sym is)
+halt_among A waits name only moves (halts.NoLine no_lines.OutputRefused) s had has fault_had fault_has (is, same, said) = (4, omega arith, sym is)
+halt_among A waits name only moves (halts.NoLine (no_lines.Refused refusal)) s had has fault_had fault_has (is, written, memory, rest) =
     among_all s (stop_among (stops.Refused refusal) s is)
-halt_among A name only moves (halts.Stopped stop) s had has fault_had fault_has (is, written, memory, rest) = among_all s (stop_among stop s is)
+halt_among A waits name only moves (halts.Stopped stop) s had has fault_had fault_has (is, written, memory, rest) = among_all s (stop_among stop s is)
 
-pub halt_at_3 : (A : Type 0) (name : List ℕ) (is_report_only : Bool) (moves : List (Move A)) (halt : Halt) (s : ℕ)
+pub halt_at_3 : (A : Type 0) (waits : Option Unanswered) (name : List ℕ) (is_report_only : Bool) (moves : List (Move A)) (halt : Halt) (s : ℕ)
     (had has fault_had fault_has : Option (List ℕ))
-    → EndsRun A name is_report_only moves (Err halt) s had has fault_had fault_has → s ≡ 3 → AppendsSome fault_had fault_has (codes "no memory\n")
-halt_at_3 A name only moves (halts.BadLine number fault) s had has fault_had fault_has (is, same, said) three = absurd (omega (arith, is, three))
-halt_at_3 A name only moves (halts.NoLine no_lines.CannotRead) s had has fault_had fault_has (is, same, said) three = absurd (omega (arith, is, three))
-halt_at_3 A name only moves (halts.NoLine no_lines.NoMemory) s had has fault_had fault_has (is, same, said) three = said
-halt_at_3 A name only moves (halts.NoLine no_lines.OutputRefused) s had has fault_had fault_has (is, same, said) three = absurd (omega (arith, is, three))
-halt_at_3 A name only moves (halts.NoLine (no_lines.Refused refusal)) s had has fault_had fault_has (is, written, memory, rest) three = memory three
-halt_at_3 A name only moves (halts.Stopped stop) s had has fault_had fault_has (is, written, memory, rest) three = memory three
+    → EndsRun A waits name is_report_only moves (Err halt) s had has fault_had fault_has → s ≡ 3 → AppendsSome fault_had fault_has (codes "no memory\n")
+halt_at_3 A waits name only moves (halts.BadLine number fault) s had has fault_had fault_has (is, same, said) three = absurd (omega (arith, is, three))
+halt_at_3 A waits name only moves (halts.NoLine no_lines.CannotRead) s had has fault_had fault_has (is, same, said) three = absurd (omega (arith, is, three))
+halt_at_3 A waits name only moves (halts.NoLine no_lines.NoMemory) s had has fault_had fault_has (is, same, said) three = said
+halt_at_3 A waits name only moves (halts.NoLine no_lines.OutputRefused) s had has fault_had fault_has (is, same, said) three = absurd (omega (arith, is, three))
+halt_at_3 A waits name only moves (halts.NoLine (no_lines.Refused refusal)) s had has fault_had fault_has (is, written, memory, rest) three = memory three
+halt_at_3 A waits name only moves (halts.Stopped stop) s had has fault_had fault_has (is, written, memory, rest) three = memory three
 
-pub halt_quiet : (A : Type 0) (name : List ℕ) (is_report_only : Bool) (moves : List (Move A)) (halt : Halt) (s : ℕ)
+pub halt_quiet : (A : Type 0) (waits : Option Unanswered) (name : List ℕ) (is_report_only : Bool) (moves : List (Move A)) (halt : Halt) (s : ℕ)
     (had has fault_had fault_has : Option (List ℕ))
-    → EndsRun A name is_report_only moves (Err halt) s had has fault_had fault_has → (s ≡ 0) ⊎ (s ≡ 4) ⊎ (s ≡ 5) ⊎ (s ≡ 6) → fault_has ≡ fault_had
-halt_quiet A name only moves (halts.BadLine number fault) s had has fault_had fault_has (is, same, said) (inl h) = absurd (omega (arith, is, h))
-halt_quiet A name only moves (halts.BadLine number fault) s had has fault_had fault_has (is, same, said) (inr (inl h)) = absurd (omega (arith, is, h))
-halt_quiet A name only moves (halts.BadLine number fault) s had has fault_had fault_has (is, same, said) (inr (inr (inl h))) = absurd (omega (arith, is, h))
-halt_quiet A name only moves (halts.BadLine number fault) s had has fault_had fault_has (is, same, said) (inr (inr (inr h))) = absurd (omega (arith, is, h))
-halt_quiet A name only moves (halts.NoLine no_lines.CannotRead) s had has fault_had fault_has (is, same, said) (inl h) = absurd (omega (arith, is, h))
-halt_quiet A name only moves (halts.NoLine no_lines.CannotRead) s had has fault_had fault_has (is, same, said) (inr (inl h)) = absurd (omega (arith, is, h))
-halt_quiet A name only moves (halts.NoLine no_lines.CannotRead) s had has fault_had fault_has (is, same, said) (inr (inr (inl h))) = absurd (omega (arith, is, h))
-halt_quiet A name only moves (halts.NoLine no_lines.CannotRead) s had has fault_had fault_has (is, same, said) (inr (inr (inr h))) = absurd (omega (arith, is, h))
-halt_quiet A name only moves (halts.NoLine no_lines.NoMemory) s had has fault_had fault_has (is, same, said) (inl h) = absurd (omega (arith, is, h))
-halt_quiet A name only moves (halts.NoLine no_lines.NoMemory) s had has fault_had fault_has (is, same, said) (inr (inl h)) = absurd (omega (arith, is, h))
-halt_quiet A name only moves (halts.NoLine no_lines.NoMemory) s had has fault_had fault_has (is, same, said) (inr (inr (inl h))) = absurd (omega (arith, is, h))
-halt_quiet A name only moves (halts.NoLine no_lines.NoMemory) s had has fault_had fault_has (is, same, said) (inr (inr (inr h))) = absurd (omega (arith, is, h))
-halt_quiet A name only moves (halts.NoLine no_lines.OutputRefused) s had has fault_had fault_has (is, same, said) run = said
-halt_quiet A name only moves (halts.NoLine (no_lines.Refused refusal)) s had has fault_had fault_has (is, written, memory, rest) (inl none) =
+    → EndsRun A waits name is_report_only moves (Err halt) s had has fault_had fault_has → (s ≡ 0) ⊎ (s ≡ 4) ⊎ (s ≡ 5) ⊎ (s ≡ 6) → fault_has ≡ fault_had
+halt_quiet A waits name only moves (halts.BadLine number fault) s had has fault_had fault_has (is, same, said) (inl h) = absurd (omega (arith, is, h))
+halt_quiet A waits name only moves (halts.BadLine number fault) s had has fault_had fault_has (is, same, said) (inr (inl h)) = absurd (omega (arith, is, h))
+halt_quiet A waits name only moves (halts.BadLine number fault) s had has fault_had fault_has (is, same, said) (inr (inr (inl h))) = absurd (omega (arith, is, h))
+halt_quiet A waits name only moves (halts.BadLine number fault) s had has fault_had fault_has (is, same, said) (inr (inr (inr h))) = absurd (omega (arith, is, h))
+halt_quiet A waits name only moves (halts.NoLine no_lines.CannotRead) s had has fault_had fault_has (is, same, said) (inl h) = absurd (omega (arith, is, h))
+halt_quiet A waits name only moves (halts.NoLine no_lines.CannotRead) s had has fault_had fault_has (is, same, said) (inr (inl h)) = absurd (omega (arith, is, h))
+halt_quiet A waits name only moves (halts.NoLine no_lines.CannotRead) s had has fault_had fault_has (is, same, said) (inr (inr (inl h))) = absurd (omega (arith, is, h))
+halt_quiet A waits name only moves (halts.NoLine no_lines.CannotRead) s had has fault_had fault_has (is, same, said) (inr (inr (inr h))) = absurd (omega (arith, is, h))
+halt_quiet A waits name only moves (halts.NoLine no_lines.NoMemory) s had has fault_had fault_has (is, same, said) (inl h) = absurd (omega (arith, is, h))
+halt_quiet A waits name only moves (halts.NoLine no_lines.NoMemory) s had has fault_had fault_has (is, same, said) (inr (inl h)) = absurd (omega (arith, is, h))
+halt_quiet A waits name only moves (halts.NoLine no_lines.NoMemory) s had has fault_had fault_has (is, same, said) (inr (inr (inl h))) = absurd (omega (arith, is, h))
+halt_quiet A waits name only moves (halts.NoLine no_lines.NoMemory) s had has fault_had fault_has (is, same, said) (inr (inr (inr h))) = absurd (omega (arith, is, h))
+halt_quiet A waits name only moves (halts.NoLine no_lines.OutputRefused) s had has fault_had fault_has (is, same, said) run = said
+halt_quiet A waits name only moves (halts.NoLine (no_lines.Refused refusal)) s had has fault_had fault_has (is, written, memory, rest) (inl none) =
     absurd (never_0 s (stop_among (stops.Refused refusal) s is) none)
-halt_quiet A name only moves (halts.NoLine (no_lines.Refused refusal)) s had has fault_had fault_has (is, written, memory, rest) (inr run) =
+halt_quiet A waits name only moves (halts.NoLine (no_lines.Refused refusal)) s had has fault_had fault_has (is, written, memory, rest) (inr run) =
     rest (or_6 s (stop_among (stops.Refused refusal) s is) run)
-halt_quiet A name only moves (halts.Stopped stop) s had has fault_had fault_has (is, written, memory, rest) (inl none) = absurd (never_0 s (stop_among stop s is) none)
-halt_quiet A name only moves (halts.Stopped stop) s had has fault_had fault_has (is, written, memory, rest) (inr run) =
+halt_quiet A waits name only moves (halts.Stopped stop) s had has fault_had fault_has (is, written, memory, rest) (inl none) = absurd (never_0 s (stop_among stop s is) none)
+halt_quiet A waits name only moves (halts.Stopped stop) s had has fault_had fault_has (is, written, memory, rest) (inr run) =
     rest (or_6 s (stop_among stop s is) run)
 
 -- ---- the parts of a run
@@ -430,9 +431,9 @@ module _ (A : Type 0) {D : Type 0} (logs : D → D → List Transfer → Type 0)
   -- the source came to its end
   pub source_ended : (r : Result (Unit {0}) Halt) → r ≡ Ok tt
       → (last : Driven) × RunsAll A logs gives is_over f d e s t (had, false) got (first_driven asks) last r
-      → status ≡ end_status is_report_only got.1 → has ≡ got.0 → fault_has ≡ fault_had
+      → Option Unanswered → status ≡ end_status is_report_only got.1 → has ≡ got.0 → fault_has ≡ fault_had
       → RunsSource A logs gives is_over f name asks is_report_only d e s t had has fault_had fault_has status
-  source_ended r is (last, runs) at_end same quiet =
+  source_ended r is (last, runs) waits at_end same quiet =
       let ended : Result (Unit {0}) Halt = Ok tt in
       let all : RunsAll A logs gives is_over f d e s t (had, false) got (first_driven asks) last ended =
       subst (λ (q : Result (Unit {0}) Halt). RunsAll A logs gives is_over f d e s t (had, false) got (first_driven asks) last q)
@@ -442,15 +443,17 @@ module _ (A : Type 0) {D : Type 0} (logs : D → D → List Transfer → Type 0)
         last = last;
         got = got;
         all = all;
+        waits = waits;
         ends = (at_end ∙ ap (λ (told : Bool). end_status is_report_only told) ran.told, same, quiet);
       }
 
   -- it did not
   pub source_halted : (r : Result (Unit {0}) Halt) (halt : Halt) → r ≡ Err halt
       → (last : Driven) × RunsAll A logs gives is_over f d e s t (had, false) got (first_driven asks) last r
-      → ((only : Bool) (moves : List (Move A)) → EndsRun A name only moves (Err halt) status got.0 has fault_had fault_has)
+      → (waits : Option Unanswered)
+      → ((only : Bool) (moves : List (Move A)) → EndsRun A waits name only moves (Err halt) status got.0 has fault_had fault_has)
       → RunsSource A logs gives is_over f name asks is_report_only d e s t had has fault_had fault_has status
-  source_halted r halt is (last, runs) ends =
+  source_halted r halt is (last, runs) waits ends =
       let ended : Result (Unit {0}) Halt = Err halt in record {
         ended = ended;
         last = last;
@@ -458,5 +461,6 @@ module _ (A : Type 0) {D : Type 0} (logs : D → D → List Transfer → Type 0)
         all =
             subst (λ (q : Result (Unit {0}) Halt). RunsAll A logs gives is_over f d e s t (had, false) got (first_driven asks) last q)
             is runs;
+        waits = waits;
         ends = ends is_report_only [];
       }

@@ -3,6 +3,7 @@ use Rattle.std.proofs.Common.{◌≡◌, ◌||◌, ℕ, Bool, true, false, List,
 use Rattle.std.specs.Prelude.{All, IfErr, Result, Ok, Err, OnOk, map}
 use Rattle.std.specs.Io.KnownBytes.{Appends}
 use Rattle.std.proofs.lemmas.List.Elements.{All-cons, All-nil}
+use Rattle.std.specs.Fmt.{digits}
 use Rattle.fk_syscalls.specs.declared.call.Answer.{Answer}
 use Rattle.fw_script.specs.Outputs.{AppendsSome}
 use Rattle.fw_script.specs.Records.{answer_text, answer_words}
@@ -10,7 +11,7 @@ use Rattle.fw_script.proofs.Writes.{Appends-append, Appends-nil, some_all, some_
 use Rattle.fw_drive.specs.Findings.{Tells, is_any_move_wrong, is_any_wrong, is_wrong, is_wrong_move}
 use Rattle.fw_drive.specs.LineMoves.{FirstThen, IsCollected, after_note}
 use Rattle.fw_drive.specs.Moves.{GoOn, Move, end_of, notes}
-use Rattle.fw_drive.specs.Notes.{Note, answer_said, differs, note_text, notes_text}
+use Rattle.fw_drive.specs.Notes.{Note, answer_said, difference_text, differs, errno_words, failed_errno, note_text, notes_text}
 use Rattle.fw_drive.specs.PrintingLaws as laws
 use Rattle.fw_drive.specs.Printing.{Says}
 use Rattle.fw_drive.specs.Printed.{Gets, GetsAt, IsTextOf, next_text, no_text}
@@ -206,28 +207,40 @@ right_then A r had mid has told tells (said, all, none) more =
 
 -- ---- lines of answers
 
-three : (x d s w n : List ℕ) → x ++ d ++ s ++ w ++ n ≡ x ++ (d ++ s ++ w) ++ n
-three x d s w n = simp append_assoc
+all_parts : (a d b w l n r p x y f : List ℕ)
+    → a ++ d ++ b ++ w ++ l ++ n ++ r ++ p ++ x ++ y ++ f ≡ ((a ++ (d ++ b)) ++ (w ++ (l ++ (n ++ r)))) ++ (p ++ (x ++ (y ++ f)))
+all_parts a d b w l n r p x y f = simp append_assoc
 
-five : (a b c d e : List ℕ) → a ++ (b ++ (c ++ (d ++ e))) ≡ a ++ b ++ c ++ d ++ e
-five a b c d e = simp append_assoc
+pub difference_parts : (call : ℕ) (words : List ℕ) (line : ℕ) (answer here : List ℕ)
+    → difference_text call words line answer here
+    ≡ ((codes "differs: answer " ++ (decimal call ++ codes " (")) ++ (words ++ (codes ", line " ++ (decimal line ++ codes "): "))))
+    ++ (answer ++ (codes ", here " ++ (here ++ codes "\n")))
+difference_parts call words line answer here =
+    all_parts (codes "differs: answer ") (decimal call) (codes " (") words (codes ", line ") (decimal line) (codes "): ") answer
+    (codes ", here ") here (codes "\n")
 
--- the line of an answered call, by its first word
-pub answer_parts : {A : Type 0} (call : ℕ) (answer : Answer A)
-    → answer_text call answer ≡ codes "answer " ++ answer_said call answer ++ codes "\n"
-answer_parts call answer = three (codes "answer ") (decimal call) (codes " ") (answer_words answer) (codes "\n")
+-- the line of an answered call of the number 0
+pub answer_parts : {A : Type 0} (answer : Answer A)
+    → answer_text 0 answer ≡ codes "answer 0 " ++ answer_words answer ++ codes "\n"
+unfolding digits
+answer_parts answer = refl
 
-pub difference_is : {A : Type 0} (call : ℕ) (answer here : Answer A) (words words_here : List ℕ)
-    → words ≡ answer_said call answer → words_here ≡ answer_said call here
-    → codes "differs: answer " ++ (words ++ (codes ", here " ++ (words_here ++ codes "\n")))
-    ≡ note_text (differs call answer here)
-difference_is call answer here words words_here is is_here =
-    ap (λ (l : List ℕ). codes "differs: answer " ++ (l ++ (codes ", here " ++ (words_here ++ codes "\n")))) is
-    ∙ ap (λ (l : List ℕ). codes "differs: answer " ++ (answer_said call answer ++ (codes ", here " ++ (l ++ codes "\n"))))
-    is_here
-    ∙ five (codes "differs: answer ") (answer_said call answer) (codes ", here ") (answer_said call here) (codes "\n")
+pub said_is : {A : Type 0} (answer : Answer A) (errno : Option ℕ) (words : List ℕ) → errno ≡ failed_errno answer
+    → words ≡ answer_words answer → errno_words errno ++ words ≡ answer_said answer
+said_is answer errno words is same =
+    ap (λ (e : Option ℕ). errno_words e ++ words) is ∙ ap (λ (l : List ℕ). errno_words (failed_errno answer) ++ l) same
 
--- ---- two parts
+pub difference_is : {A : Type 0} (call : ℕ) (said : List ℕ) (line : ℕ) (answer here : Answer A) (words words_here : List ℕ)
+    → words ≡ answer_said answer → words_here ≡ answer_said here
+    → difference_text call said line words words_here ≡ note_text (differs call said line answer here)
+difference_is call said line answer here words words_here is is_here =
+    ap (λ (l : List ℕ). difference_text call said line l words_here) is
+    ∙ ap (λ (l : List ℕ). difference_text call said line (answer_said answer) l) is_here
+
+-- ---- parts
+
+pub five_parts : (a b c d e : List ℕ) → a ++ b ++ c ++ d ++ e ≡ (a ++ b) ++ (c ++ (d ++ e))
+five_parts a b c d e = simp append_assoc
 
 -- the first part was taken, and then the rest was
 pub taken_then : {T E : Type 0} (r : Result T E) (old mid new : Option (List ℕ)) (first rest whole : List ℕ)

@@ -7,7 +7,7 @@ use Rattle.fw_drive.specs.declared.stop.Stop.{Stop}
 -- this says that the server was wrong
 abbrev pub is_wrong : {A : Type 0} → Note A → Bool
 is_wrong (wrong f) = true
-is_wrong (differs call answer here) = true
+is_wrong (differs call words line answer here) = true
 is_wrong note = false
 
 abbrev pub is_wrong_move : {A : Type 0} → Move A → Bool

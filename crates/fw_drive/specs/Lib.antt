@@ -1,5 +1,7 @@
 pub mod Acts
 pub mod DriveLines
+pub mod Errnos
+pub mod Faults
 pub mod Findings
 pub mod Inputs
 pub mod Judging

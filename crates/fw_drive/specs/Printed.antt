@@ -12,8 +12,10 @@ use Rattle.fw_script.specs.Records.{answer_text, nodes_text, record_text}
 use Rattle.fw_world.specs.declared.event.Outcome.{Outcome}
 use Rattle.fw_world.specs.declared.event.Outcome.TheVariants as outcome
 use Rattle.fw_world.specs.declared.record.Record.TheVariants as records
+use Rattle.fw_drive.specs.Faults.{unanswered_words}
 use Rattle.fw_drive.specs.Moves.{Move, acts, sends, writes, collects, shows, notes}
 use Rattle.fw_drive.specs.Notes.{note_text}
+use Rattle.fw_drive.specs.declared.fault.Unanswered.{Unanswered}
 use Rattle.fw_drive.specs.declared.form.Form.{Form}
 use Rattle.fw_drive.specs.declared.form.Form.TheVariants as form
 use Rattle.fw_drive.specs.declared.stop.Stop.{Stop}
@@ -81,11 +83,11 @@ abbrev pub Gets : {T : Type 0} → Result T Stop → (old new : Option (List ℕ
 Gets (Ok _) old new text = Appends old new text
 Gets (Err stop) old new text = GetsAt stop old new text
 
--- the line that says why a run ended before its script
-abbrev pub stop_line : (A : Type 0) → Stop → List ℕ
-stop_line A stops.ServerEnded = codes "server ended\n"
-stop_line A stops.NoReply = codes "no reply\n"
-stop_line A stops.DeviceFailed = codes "device failed\n"
-stop_line A stops.TooMany = codes "device failed: 10000 frames wait\n"
-stop_line A (stops.Refused refusal) = refusal_text A refusal
-stop_line A other = []
+-- the line that says why a run ended before its script, and which requests then waited for a reply
+abbrev pub stop_line : (A : Type 0) → Option Unanswered → Stop → List ℕ
+stop_line A waits stops.ServerEnded = codes "server ended\n"
+stop_line A waits stops.NoReply = codes "no reply" ++ unanswered_words waits ++ codes "\n"
+stop_line A waits stops.DeviceFailed = codes "device failed\n"
+stop_line A waits stops.TooMany = codes "device failed: 10000 frames wait\n"
+stop_line A waits (stops.Refused refusal) = refusal_text A refusal
+stop_line A waits other = []

@@ -16,6 +16,7 @@ use Rattle.fw_drive.specs.LineMoves.{IsCollected, LinesMoveAs, all_lines}
 use Rattle.fw_drive.specs.Moves.{GoOn, IsNote, IsSettled, Move, MovesOn, end_of}
 use Rattle.fw_drive.specs.Notes.{Note, notes_text}
 use Rattle.fw_drive.specs.Printed.{Gets, IsTextOf, IsWrittenLine, stop_line}
+use Rattle.fw_drive.specs.declared.fault.Unanswered.{Unanswered}
 use Rattle.fw_drive.specs.declared.form.Form.{Form}
 use Rattle.fw_drive.specs.declared.line.DriveLine.{DriveLine}
 use Rattle.fw_drive.specs.declared.stop.Stop.{Stop}
@@ -129,10 +130,10 @@ IsStatusOf is_report_only moves (Ok _) status = status ≡ finding_status is_rep
 IsStatusOf is_report_only moves (Err stop) status = IsStopStatus stop status
 
 -- The line that says it is printed last: at status 4 all of it.
-abbrev pub SaysStop : (A : Type 0) → Result (Unit {0}) Stop → ℕ → (had has : Option (List ℕ)) → Type 0
-SaysStop A (Ok _) status had has = has ≡ had
-SaysStop A (Err stop) status had has =
-    (status ≡ 4 → Appends had has (stop_line A stop)) × AppendsSome had has (stop_line A stop)
+abbrev pub SaysStop : (A : Type 0) → Option Unanswered → Result (Unit {0}) Stop → ℕ → (had has : Option (List ℕ)) → Type 0
+SaysStop A waits (Ok _) status had has = has ≡ had
+SaysStop A waits (Err stop) status had has =
+    (status ≡ 4 → Appends had has (stop_line A waits stop)) × AppendsSome had has (stop_line A waits stop)
 
 -- A script is run on a first kernel: its lines make their moves in their order, all of them where the status is 0 or 6.
 -- What goes over the device is theirs, and so is what the output gets, with a line behind it where the run ended before.
@@ -145,4 +146,6 @@ pub record RunsScript (A : Type 0) {D : Type 0} (logs : D → D → List Transfe
   pub got : Told
   pub goes : Goes A logs f before after (had, false) got (first_driven asks) last ended (LinesMoveAs f ended (all_lines f said))
   pub is : IsStatusOf is_report_only goes.moves ended status
-  pub says : SaysStop A ended status got.0 has
+  -- the requests that wait for a reply at the end
+  pub waits : Option Unanswered
+  pub says : SaysStop A waits ended status got.0 has

@@ -10,6 +10,7 @@ use Rattle.fw_drive.specs.Judging.{Say}
 use Rattle.fw_drive.specs.LineMoves.{LinesMove, all_lines, mount_lines}
 use Rattle.fw_drive.specs.Moves.{Move}
 use Rattle.fw_drive.specs.Runs.{Goes, IsStopStatus, SaysStop}
+use Rattle.fw_drive.specs.declared.fault.Unanswered.{Unanswered}
 use Rattle.fw_drive.specs.declared.form.Form.{Form}
 use Rattle.fw_drive.specs.declared.halt.Halt.{Halt}
 use Rattle.fw_drive.specs.declared.halt.Halt.TheVariants as halts
@@ -92,30 +93,31 @@ moves_to_end A logs f before after had has old new (Ok _) lines (said, say, ran)
 moves_to_end A logs f before after had has old new (Err halt) lines runs = []
 
 -- What is said of a run that came to its end before its source, and its exit status.
-abbrev pub EndsStopped : (A : Type 0) → Stop → (status : ℕ) → (had has fault_had fault_has : Option (List ℕ)) → Type 0
-EndsStopped A stop status had has fault_had fault_has =
+abbrev pub EndsStopped : (A : Type 0) → Option Unanswered → Stop → (status : ℕ)
+    → (had has fault_had fault_has : Option (List ℕ)) → Type 0
+EndsStopped A waits stop status had has fault_had fault_has =
     let r : Result (Unit {0}) Stop = Err stop in
-    IsStopStatus stop status × SaysStop A r status had has
+    IsStopStatus stop status × SaysStop A waits r status had has
     × (status ≡ 3 → AppendsSome fault_had fault_has (codes "no memory\n"))
     × ((status ≡ 4) ⊎ (status ≡ 5) → fault_has ≡ fault_had)
 
 -- What is said of the end of a run, and its exit status.
-abbrev pub EndsRun : (A : Type 0) → (name : List ℕ) → (is_report_only : Bool) → List (Move A) → Result (Unit {0}) Halt
-    → (status : ℕ) → (had has fault_had fault_has : Option (List ℕ)) → Type 0
-EndsRun A name is_report_only moves (Ok _) status had has fault_had fault_has =
+abbrev pub EndsRun : (A : Type 0) → Option Unanswered → (name : List ℕ) → (is_report_only : Bool) → List (Move A)
+    → Result (Unit {0}) Halt → (status : ℕ) → (had has fault_had fault_has : Option (List ℕ)) → Type 0
+EndsRun A waits name is_report_only moves (Ok _) status had has fault_had fault_has =
     (status ≡ finding_status is_report_only moves) × (has ≡ had) × (fault_has ≡ fault_had)
-EndsRun A name is_report_only moves (Err (halts.BadLine number fault)) status had has fault_had fault_has =
+EndsRun A waits name is_report_only moves (Err (halts.BadLine number fault)) status had has fault_had fault_has =
     (status ≡ 1) × (has ≡ had) × AppendsSome fault_had fault_has (bad_line number fault ++ codes "\n")
-EndsRun A name is_report_only moves (Err (halts.NoLine no_line.CannotRead)) status had has fault_had fault_has =
+EndsRun A waits name is_report_only moves (Err (halts.NoLine no_line.CannotRead)) status had has fault_had fault_has =
     (status ≡ 1) × (has ≡ had) × AppendsSome fault_had fault_has (unreadable name ++ codes "\n")
-EndsRun A name is_report_only moves (Err (halts.NoLine no_line.NoMemory)) status had has fault_had fault_has =
+EndsRun A waits name is_report_only moves (Err (halts.NoLine no_line.NoMemory)) status had has fault_had fault_has =
     (status ≡ 3) × (has ≡ had) × AppendsSome fault_had fault_has (codes "no memory\n")
-EndsRun A name is_report_only moves (Err (halts.NoLine no_line.OutputRefused)) status had has fault_had fault_has =
+EndsRun A waits name is_report_only moves (Err (halts.NoLine no_line.OutputRefused)) status had has fault_had fault_has =
     (status ≡ 5) × (has ≡ had) × (fault_has ≡ fault_had)
-EndsRun A name is_report_only moves (Err (halts.NoLine (no_line.Refused refusal))) status had has fault_had fault_has =
-    EndsStopped A (stops.Refused refusal) status had has fault_had fault_has
-EndsRun A name is_report_only moves (Err (halts.Stopped stop)) status had has fault_had fault_has =
-    EndsStopped A stop status had has fault_had fault_has
+EndsRun A waits name is_report_only moves (Err (halts.NoLine (no_line.Refused refusal))) status had has fault_had fault_has =
+    EndsStopped A waits (stops.Refused refusal) status had has fault_had fault_has
+EndsRun A waits name is_report_only moves (Err (halts.Stopped stop)) status had has fault_had fault_has =
+    EndsStopped A waits stop status had has fault_had fault_has
 
 -- Lines are run on a first kernel as their source gives them, in their order: all of them where the status is 0 or 6.
 pub record RunsSource (A : Type 0) {D S : Type 0} (logs : D → D → List Transfer → Type 0)
@@ -125,6 +127,8 @@ pub record RunsSource (A : Type 0) {D S : Type 0} (logs : D → D → List Trans
   pub last : Driven
   pub got : Told
   pub all : RunsAll A logs gives is_over f before after old_source new_source (had, false) got (first_driven asks) last ended
-  pub ends : EndsRun A name is_report_only
+  -- the requests that wait for a reply at the end
+  pub waits : Option Unanswered
+  pub ends : EndsRun A waits name is_report_only
       (moves_to_end A logs f before after (had, false) got (first_driven asks) last ended all.lines all.runs) ended status
       got.0 has fault_had fault_has

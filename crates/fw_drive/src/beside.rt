@@ -1,7 +1,6 @@
 //! The same calls in a world of this project's own.
 
-ghost use Rattle.std.specs.Prelude.{◌≡◌, ◌++◌, ℕ, IfErr, IfOk, List, codes, false};
-ghost use Rattle.fw_script.specs.Records.{answer_text};
+ghost use Rattle.std.specs.Prelude.{◌≡◌, IfErr, IfOk, List, false};
 ghost use Rattle.fw_drive.specs.Findings.{is_any_wrong};
 ghost use Rattle.fw_drive.specs.Notes.{Note, notes_text};
 ghost use Rattle.fw_drive.specs.Printed.{Gets};
@@ -9,13 +8,10 @@ ghost use Rattle.fw_drive.specs.Runs.{IsUnprinted};
 
 use crate::alike::are_alike;
 use crate::asked::{Asked, is_made_otherwise, is_refused_as_above};
-use crate::printing::{print_compared, print_difference};
+use crate::differing::{Answered, print_differing};
+use crate::printing::print_compared;
 use crate::stop::Stop;
-use fw_script::write_record;
-use fw_world::{
-    Answer, Call, Event, Minor, Outcome, Pick, Record, Refusal, Tables, Taken, WorldOf,
-};
-use std::alloc::Allocator;
+use fw_world::{Answer, Call, Event, Minor, Outcome, Pick, Refusal, Tables, Taken, WorldOf};
 use std::collections::BTreeMap;
 use std::io::Write;
 
@@ -31,6 +27,10 @@ pub(crate) struct Beside<T: Tables> {
     alloc: T::Heap,
     world: WorldOf<T>,
     asked: Asked<T::Heap>,
+    /// The line that is run, and none where memory was out for it.
+    line: Option<Vec<u8, T::Heap>>,
+    /// The line that began the call which waits for its answer.
+    words: Vec<u8, T::Heap>,
     /// The number here of each call that may have opened a file, by its number there.
     numbers: BTreeMap<u64, u64, T::Heap>,
     answers: u64,
@@ -49,10 +49,21 @@ impl<T: Tables> Beside<T> {
             alloc,
             world,
             asked: Asked::Other,
+            line: None,
+            words: Vec::new(alloc),
             numbers: BTreeMap::new(alloc),
             answers: 0,
             differences: 0,
         })
+    }
+
+    /// A line is run from now on.
+    pub(crate) fn begin_line(&mut self, text: &[u8]) {
+        let mut line = Vec::new(self.alloc);
+        self.line = match line.extend_from_slice(text) {
+            Ok(()) => Some(line),
+            Err(_) => None,
+        };
     }
 
     /// Ends the world.
@@ -165,6 +176,10 @@ impl<T: Tables> Beside<T> {
             return Err(Refusal::NoMemory);
         };
         self.asked = asked;
+        let Some(words) = self.line.take() else {
+            return Err(Refusal::NoMemory);
+        };
+        self.words = words;
         let call_here = self.call_here(call);
         match (call, self.carry(&call_here)?) {
             (Call::Open { .. } | Call::Create { .. }, Some(here)) => self.note_number(number, here),
@@ -231,7 +246,8 @@ impl<T: Tables> Beside<T> {
         }
     }
 
-    /// Prints that an answer differs from the one here, if it does. Says whether it does.
+    /// Prints that the answer to a call, which began in the line of this number, differs from the one here, if it does. Says
+    /// whether it does.
     ///
     /// # Errors
     ///
@@ -239,6 +255,7 @@ impl<T: Tables> Beside<T> {
     pub(crate) fn compare<W: Write>(
         &mut self,
         call: u64,
+        line: u64,
         answer: Answer<T::Heap>,
         out: &mut W,
     ) -> Result<bool, Stop>
@@ -254,7 +271,9 @@ impl<T: Tables> Beside<T> {
             Ok(true) => Ok(false),
             Ok(false) => {
                 self.differences = self.differences.saturating_add(1);
-                print_differing(self.alloc, call, answer, here, out)
+                let words = self.words.as_slice();
+                let answered = Answered { call, words, line };
+                print_differing(self.alloc, answered, answer, here, out)
             }
             Err(_) => Err(Stop::NoMemory),
         }
@@ -275,56 +294,4 @@ impl<T: Tables> Beside<T> {
             Err(_refused) => Err(Stop::OutputRefused),
         }
     }
-}
-
-/// The line of an answered call.
-fn line_of<A: Allocator + Copy>(alloc: A, call: u64, answer: Answer<A>) -> Result<Vec<u8, A>, Stop>
-    ensures ok { IfOk result (λ line. line.items ≡ answer_text call answer) }
-    ensures own { IfErr result IsUnprinted }
-{
-    let mut line = Vec::new(alloc);
-    match write_record(&mut line, &Record::Answered { call, answer }) {
-        Ok(()) => Ok(line),
-        Err(_refused) => Err(Stop::NoMemory),
-    }
-}
-
-/// Prints two answers to a call that differ, and says that they do.
-fn print_differing<A: Allocator + Copy, W: Write>(
-    alloc: A,
-    call: u64,
-    answer: Answer<A>,
-    here: Answer<A>,
-    out: &mut W,
-) -> Result<bool, Stop>
-    ensures printed { (said : List (Note A)) × Gets result (W.contents out.old) (W.contents out.new) (notes_text said)
-        × IfOk result (λ differs. differs ≡ is_any_wrong said) }
-    ensures own { IfErr result IsUnprinted }
-{
-    let answered = match line_of(alloc, call, answer) {
-        Ok(line) => line,
-        Err(stop) => return Err(stop),
-    };
-    let answered_here = match line_of(alloc, call, here) {
-        Ok(line) => line,
-        Err(stop) => return Err(stop),
-    };
-    match print_difference(
-        out,
-        said_in(answered.as_slice()),
-        said_in(answered_here.as_slice()),
-    ) {
-        Ok(()) => Ok(true),
-        Err(_refused) => Err(Stop::OutputRefused),
-    }
-}
-
-/// What stands in the line of an answered call behind its first word: the call's number and its answer.
-fn said_in(line: &[u8]) -> &[u8]
-    ensures { (words : List ℕ) → line.now ≡ codes "answer " ++ words ++ codes "\n" → result.now ≡ words }
-{
-    if line.len() < 8 {
-        return line;
-    }
-    &line[7..line.len() - 1]
 }

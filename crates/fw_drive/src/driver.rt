@@ -216,6 +216,11 @@ impl<T: Tables> Driver<T> {
         write_next(&mut self.kernel, &mut self.connection, device, notes, out)
     }
 
+    /// The number of the request that serves a call, if there is one.
+    pub(crate) fn request_for(&self, call: u64) -> Option<u64> {
+        self.kernel.request_for(call)
+    }
+
     /// Whether a call waits for its answer.
     pub(crate) fn is_asking(&self) -> bool {
         self.kernel.unanswered() != 0

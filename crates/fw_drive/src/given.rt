@@ -11,6 +11,7 @@ use crate::form::Form;
 use crate::halt::Halt;
 use crate::line::read_any;
 use crate::notes::Notes;
+use crate::place::Place;
 use crate::script::do_line;
 use crate::source::{LineSource, NoLine};
 use crate::stop::{Stop, flush};
@@ -33,8 +34,12 @@ fn run_given_line<T: Tables, D: Device, W: Write>(
         (W.contents out.old, notes.old.is_wrong) (W.contents out.new, notes.new.is_wrong)
         driver.old driver.new [] number result (line.now ∷ []) }
 {
+    let place = Place {
+        number: number as u64,
+        text: line,
+    };
     match read_any(form, line) {
-        Ok(Some(said)) => match do_line(alloc, driver, device, notes, form, said, out) {
+        Ok(Some(said)) => match do_line(alloc, driver, device, notes, form, place, said, out) {
             Ok(()) => Ok(()),
             Err(stop) => Err(Halt::Stopped(stop)),
         },

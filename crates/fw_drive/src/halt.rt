@@ -4,6 +4,7 @@ ghost use Rattle.std.specs.Prelude.{◌≡◌, Bool, Err, List};
 ghost use Rattle.fw_drive.specs.Moves.{Move};
 ghost use Rattle.fw_drive.specs.Sources.{EndsRun};
 
+use crate::fault::Unanswered;
 use crate::source::NoLine;
 use crate::stop::Stop;
 use fw_script::{LineFault, bad_line, cannot_read, no_memory};
@@ -22,14 +23,16 @@ pub(crate) enum Halt {
 }
 
 impl Halt {
-    /// Says it, why the run came to its end on the output and all else on `faults`, and gives the exit status.
+    /// Says it, why the run came to its end on the output and all else on `faults`, and gives the exit status. Where no reply
+    /// came it says what waits for one.
     pub(crate) fn report<A: Allocator, W: Write, F: Write>(
         self,
         name: &str,
+        waits: Option<Unanswered>,
         out: &mut W,
         faults: &mut F,
     ) -> u8
-        ensures { (is_report_only : Bool) (moves : List (Move A)) → EndsRun A name.now is_report_only moves (Err self) result
+        ensures { (is_report_only : Bool) (moves : List (Move A)) → EndsRun A waits name.now is_report_only moves (Err self) result
             (W.contents out.old) (W.contents out.new) (F.contents faults.old) (F.contents faults.new) }
     {
         match self {
@@ -38,9 +41,9 @@ impl Halt {
             Halt::NoLine(NoLine::NoMemory) => no_memory(faults),
             Halt::NoLine(NoLine::OutputRefused) => 5,
             Halt::NoLine(NoLine::Refused(refusal)) => {
-                Stop::Refused(refusal).report::<A, W, F>(out, faults)
+                Stop::Refused(refusal).report::<A, W, F>(waits, out, faults)
             }
-            Halt::Stopped(stop) => stop.report::<A, W, F>(out, faults),
+            Halt::Stopped(stop) => stop.report::<A, W, F>(waits, out, faults),
         }
     }
 }

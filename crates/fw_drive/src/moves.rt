@@ -123,7 +123,7 @@ fn note_request<T: Tables, W: Write>(
         Ok(()) => {}
         Err(stop) => return Err(stop),
     }
-    if notes.note_sent(frame).is_err() {
+    if notes.note_sent(driver, frame).is_err() {
         return Err(Stop::NoMemory);
     }
     let read = Outcome::Read {

@@ -10,9 +10,12 @@ ghost use Rattle.fw_drive.specs.Printing.{HasPrinted, PrintsOn, Says};
 ghost use Rattle.fw_drive.specs.Runs.{IsUnprinted};
 
 use crate::beside::Beside;
-use crate::fault::Fault;
+use crate::blaming::print_fault;
+use crate::driver::Driver;
+use crate::fault::{Fault, Unanswered};
 use crate::form::Form;
-use crate::printing::{print_fault, print_notification, print_outcome, print_raised};
+use crate::place::Place;
+use crate::printing::{print_notification, print_outcome, print_raised};
 use crate::stop::{Stop, flush};
 use crate::watch::Watch;
 use fk_drive::{Noted, Notes as FrameNotes, OtherFrame, Written};
@@ -28,6 +31,8 @@ use std::io::Write;
 pub(crate) struct Notes<T: Tables> {
     watch: Watch<T::Heap>,
     beside: Option<Beside<T>>,
+    /// The number of the line that is run, from 1.
+    line: u64,
     /// Whether what was noted of frames is printed, or why it is not.
     pub(crate) printed: Result<(), Stop>,
     /// Whether it was printed that the server was wrong.
@@ -59,6 +64,7 @@ impl<T: Tables> Notes<T> {
         Ok(Notes {
             watch: Watch::new(alloc),
             beside,
+            line: 0,
             printed: Ok(()),
             is_wrong: false,
         })
@@ -69,6 +75,7 @@ impl<T: Tables> Notes<T> {
         let Notes {
             watch,
             beside,
+            line: _,
             printed: _,
             is_wrong: _,
         } = self;
@@ -78,12 +85,23 @@ impl<T: Tables> Notes<T> {
         }
     }
 
+    /// A line is run from now on.
+    pub(crate) fn begin_line(&mut self, place: Place<'_>)
+        ensures { self.new.is_wrong ≡ self.old.is_wrong }
+    {
+        self.line = place.number;
+        if let Some(beside) = &mut self.beside {
+            beside.begin_line(place.text);
+        }
+    }
+
     /// Notes what the kernel counts and awaits anew after an event.
     fn watch_outcome(&mut self, outcome: Outcome) -> Result<(), AllocError>
         ensures { self.new.is_wrong ≡ self.old.is_wrong }
     {
         match outcome {
             Outcome::Mounted => self.watch.note_mount()?,
+            Outcome::Begun { call } => self.watch.note_begun(call, self.line)?,
             Outcome::Aborted => self.watch.note_abort(),
             Outcome::Evicted { node, .. } => self.watch.note_evicted(node),
             _ => {}
@@ -134,8 +152,9 @@ impl<T: Tables> Notes<T> {
         ensures printed { Says T.Heap result (W.contents out.old, self.old.is_wrong) (W.contents out.new, self.new.is_wrong) }
         ensures own { IfErr result IsUnprinted }
     {
+        let line = self.watch.note_answered(call);
         match &mut self.beside {
-            Some(beside) => match beside.compare(call, answer, out) {
+            Some(beside) => match beside.compare(call, line, answer, out) {
                 Ok(differs) => {
                     self.is_wrong = self.is_wrong || differs;
                     Ok(())
@@ -168,11 +187,20 @@ impl<T: Tables> Notes<T> {
     }
 
     /// Notes a request that was sent.
-    pub(crate) fn note_sent(&mut self, frame: &RequestFrame<T::Heap>) -> Result<(), AllocError>
+    pub(crate) fn note_sent(
+        &mut self,
+        driver: &Driver<T>,
+        frame: &RequestFrame<T::Heap>,
+    ) -> Result<(), AllocError>
         ensures { self.new.is_wrong ≡ self.old.is_wrong }
     {
         let (unique, opcode) = frame.head();
-        self.watch.note_sent(unique, opcode, frame.bytes())
+        self.watch.note_sent(driver, unique, opcode, frame.bytes())
+    }
+
+    /// The requests that wait for a reply.
+    pub(crate) fn unanswered(&self) -> Option<Unanswered> {
+        self.watch.unanswered()
     }
 
     /// Prints what the server did wrong, if it did.

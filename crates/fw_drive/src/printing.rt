@@ -7,10 +7,9 @@ ghost use Rattle.fk_syscalls.specs.declared.call.Answer.{Answer as AnswerValue};
 ghost use Rattle.fw_script.specs.Outputs.{AppendsSome};
 ghost use Rattle.fw_script.specs.Records.{outcome_line, record_text};
 ghost use Rattle.fw_world.specs.declared.event.Outcome.TheVariants as outcomes;
-ghost use Rattle.fw_drive.specs.Notes.{compared, differs, fault_words, note_text, notification, raised, wrong};
+ghost use Rattle.fw_drive.specs.Notes.{compared, note_text, notification, raised};
 ghost use Rattle.fw_drive.specs.Printed.{IsShownUnique, of_frame, outcome_text, refusal_text};
 
-use crate::fault::Fault;
 use crate::form::Form;
 use fk_wire::{Opcode, ReplyHead};
 use fuse_spec::WriteResult;
@@ -97,7 +96,7 @@ pub(crate) fn print_counted<W: Write>(
 }
 
 /// Prints words, a number and other words.
-fn print_between<W: Write>(
+pub(crate) fn print_between<W: Write>(
     out: &mut W,
     before: &[u8],
     number: u64,
@@ -121,44 +120,6 @@ pub(crate) fn print_raised<A: Allocator, W: Write>(
     ensures refused { OnErr result (AppendsSome (W.contents out.old) (W.contents out.new) (note_text {A = A} (raised minor))) }
 {
     print_between(out, b"7.", u64::from(minor), b" taken as 7.31\n")
-}
-
-/// Prints what a server did wrong, in words.
-fn print_fault_words<W: Write>(out: &mut W, fault: Fault) -> Result<(), OutputRefused>
-    ensures ok { OnOk result (Appends (W.contents out.old) (W.contents out.new) (fault_words fault)) }
-    ensures refused { OnErr result (AppendsSome (W.contents out.old) (W.contents out.new) (fault_words fault)) }
-{
-    match fault {
-        Fault::NoReply => write_text(out, b"no reply's head"),
-        Fault::ToNothing => write_text(out, b"reply to nothing"),
-        Fault::Second => write_text(out, b"second reply"),
-        Fault::Body => write_text(out, b"body is not its request's"),
-        Fault::Root => write_text(out, b"the root given for a name"),
-        Fault::TwoGenerations { node } => print_between(
-            out,
-            b"node ",
-            node,
-            b" under two generations",
-        ),
-        Fault::TwoFiles { node } => print_between(
-            out,
-            b"node ",
-            node,
-            b" given for two files at once",
-        ),
-    }
-}
-
-/// Prints what a server did wrong.
-pub(crate) fn print_fault<A: Allocator, W: Write>(
-    out: &mut W,
-    fault: Fault,
-) -> Result<(), OutputRefused>
-    ensures ok { OnOk result (Appends (W.contents out.old) (W.contents out.new) (note_text {A = A} (wrong fault))) }
-    ensures refused { OnErr result (AppendsSome (W.contents out.old) (W.contents out.new) (note_text {A = A} (wrong fault))) }
-{
-    print_fault_words(out, fault)?;
-    write_text(out, b"\n")
 }
 
 /// Prints words and a number, other words and a number, and a line feed.
@@ -206,35 +167,14 @@ pub(crate) fn print_compared<A: Allocator, W: Write>(
 }
 
 /// Prints words and what follows them.
-fn print_both<W: Write>(out: &mut W, words: &[u8], more: &[u8]) -> Result<(), OutputRefused>
+pub(crate) fn print_both<W: Write>(
+    out: &mut W,
+    words: &[u8],
+    more: &[u8],
+) -> Result<(), OutputRefused>
     ensures ok { OnOk result (Appends (W.contents out.old) (W.contents out.new) (words.now ++ more.now)) }
     ensures refused { OnErr result (AppendsSome (W.contents out.old) (W.contents out.new) (words.now ++ more.now)) }
 {
     write_text(out, words)?;
     write_text(out, more)
-}
-
-/// Prints what follows words, and a line feed.
-fn print_last<W: Write>(out: &mut W, words: &[u8], more: &[u8]) -> Result<(), OutputRefused>
-    ensures ok { OnOk result (Appends (W.contents out.old) (W.contents out.new) (words.now ++ (more.now ++ codes "\n"))) }
-    ensures refused { OnErr result (AppendsSome (W.contents out.old) (W.contents out.new)
-        (words.now ++ (more.now ++ codes "\n"))) }
-{
-    print_both(out, words, more)?;
-    write_text(out, b"\n")
-}
-
-/// Prints that the answer to a call differs from the one here, each by its call's number and its words.
-pub(crate) fn print_difference<W: Write>(
-    out: &mut W,
-    answer: &[u8],
-    here: &[u8],
-) -> Result<(), OutputRefused>
-    ensures ok { OnOk result (Appends (W.contents out.old) (W.contents out.new)
-        (codes "differs: answer " ++ (answer.now ++ (codes ", here " ++ (here.now ++ codes "\n"))))) }
-    ensures refused { OnErr result (AppendsSome (W.contents out.old) (W.contents out.new)
-        (codes "differs: answer " ++ (answer.now ++ (codes ", here " ++ (here.now ++ codes "\n"))))) }
-{
-    print_both(out, b"differs: answer ", answer)?;
-    print_last(out, b", here ", here)
 }

@@ -11,6 +11,7 @@ ghost use Rattle.fw_drive.specs.LineMoves.{LinesMoveAs, all_lines};
 ghost use Rattle.fw_drive.specs.Runs.{Goes, RunsScript};
 
 use crate::driver::Driver;
+use crate::fault::Unanswered;
 use crate::form::Form;
 use crate::line::DriveLine;
 use crate::lines::{first_fault, read_lines};
@@ -45,6 +46,7 @@ fn run_driver<T: Tables, D: Device, W: Write>(
     device: &mut D,
     notes: &mut Notes<T>,
     form: Form,
+    script: &[u8],
     lines: &[DriveLine<'_>],
     out: &mut W,
 ) -> Result<(), Stop>
@@ -53,27 +55,29 @@ fn run_driver<T: Tables, D: Device, W: Write>(
         result
         (LinesMoveAs form result (all_lines form lines.now)) }
 {
-    match run_script(alloc, driver, device, notes, form, lines, out) {
+    match run_script(alloc, driver, device, notes, form, script, lines, out) {
         Ok(()) => print_end(driver, notes, out),
         Err(stop) => Err(stop),
     }
 }
 
-/// Runs a script whose lines are good on a new kernel. The second part says whether the server was wrong.
+/// Runs a script whose lines are good on a new kernel. The second part says whether the server was wrong, and the third
+/// which requests wait for a reply.
 fn run_good<T: Tables, D: Device, W: Write>(
     alloc: T::Heap,
     task: Task<'_>,
     device: &mut D,
+    script: &[u8],
     lines: &[DriveLine<'_>],
     out: &mut W,
-) -> (Result<(), Stop>, bool)
+) -> (Result<(), Stop>, bool, Option<Unanswered>)
     ensures { (last : Driven) × Goes T.Heap D.logs task.entry.form device.old device.new
         (W.contents out.old, false) (W.contents out.new, result.1) (first_driven task.entry.opens_directories) last result.0
         (LinesMoveAs task.entry.form result.0 (all_lines task.entry.form lines.now)) }
 {
     let mut notes = match Notes::<T>::new(alloc, task.form) {
         Ok(notes) => notes,
-        Err(stop) => return (Err(stop), false),
+        Err(stop) => return (Err(stop), false, None),
     };
     let mut driver = Driver::<T>::new(alloc, task.opens_directories, task.free_fields);
     let ended = run_driver(
@@ -82,13 +86,15 @@ fn run_good<T: Tables, D: Device, W: Write>(
         device,
         &mut notes,
         task.form,
+        script,
         lines,
         out,
     );
     let is_wrong = notes.is_wrong;
+    let waits = notes.unanswered();
     driver.end();
     notes.end();
-    (ended, is_wrong)
+    (ended, is_wrong, waits)
 }
 
 /// The bytes of a script, to be judged and run.
@@ -162,10 +168,17 @@ fn run_text<A: Allocator + Copy, D: Device, W: Write, F: Write>(
         Ok(lines) => lines,
         Err(bad) => return bad.say(faults),
     };
-    let (ended, is_wrong) = run_good::<Maps<A>, D, W>(alloc, task, device, lines.as_slice(), out);
+    let (ended, is_wrong, waits) = run_good::<Maps<A>, D, W>(
+        alloc,
+        task,
+        device,
+        script,
+        lines.as_slice(),
+        out,
+    );
     match ended {
         Ok(()) => status_at_end(task.is_report_only, is_wrong),
-        Err(stop) => stop.report::<A, W, F>(out, faults),
+        Err(stop) => stop.report::<A, W, F>(waits, out, faults),
     }
 }
 

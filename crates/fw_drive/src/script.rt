@@ -17,6 +17,7 @@ use crate::form::Form;
 use crate::line::DriveLine;
 use crate::moves::{act, receive, send, show};
 use crate::notes::Notes;
+use crate::place::{Place, Places};
 use crate::stop::{Stop, flush};
 use fuse_device::Device;
 use fw_script::{is_hex_or_none, read_hex_or_none};
@@ -131,13 +132,14 @@ fn run_carried<T: Tables, D: Device, W: Write>(
     }
 }
 
-/// Does what a line says, and hands on what was printed.
+/// Does what the line of a place says, and hands on what was printed.
 pub(crate) fn do_line<T: Tables, D: Device, W: Write>(
     alloc: T::Heap,
     driver: &mut Driver<T>,
     device: &mut D,
     notes: &mut Notes<T>,
     form: Form,
+    place: Place<'_>,
     line: DriveLine<'_>,
     out: &mut W,
 ) -> Result<(), Stop>
@@ -146,6 +148,7 @@ pub(crate) fn do_line<T: Tables, D: Device, W: Write>(
         driver.old driver.new result
         (Perhaps result (FirstThen (IsMoveOf line.entry) (MayFollow form))) }
 {
+    notes.begin_line(place);
     match run_carried(alloc, driver, device, notes, form, line, out) {
         Ok(()) => flush(out),
         Err(stop) => Err(stop),
@@ -159,6 +162,7 @@ fn run_lines<T: Tables, D: Device, W: Write>(
     device: &mut D,
     notes: &mut Notes<T>,
     form: Form,
+    script: &[u8],
     lines: &[DriveLine<'_>],
     out: &mut W,
 ) -> Result<(), Stop>
@@ -167,8 +171,10 @@ fn run_lines<T: Tables, D: Device, W: Write>(
         driver.old driver.new result
         (LinesMoveAs form result lines.now) }
 {
+    let mut places = Places::of(script);
     for line in lines {
-        if let Err(stop) = do_line(alloc, driver, device, notes, form, *line, out) {
+        let place = places.next_said();
+        if let Err(stop) = do_line(alloc, driver, device, notes, form, place, *line, out) {
             return Err(stop);
         }
     }
@@ -182,6 +188,7 @@ pub(crate) fn run_script<T: Tables, D: Device, W: Write>(
     device: &mut D,
     notes: &mut Notes<T>,
     form: Form,
+    script: &[u8],
     lines: &[DriveLine<'_>],
     out: &mut W,
 ) -> Result<(), Stop>
@@ -191,10 +198,10 @@ pub(crate) fn run_script<T: Tables, D: Device, W: Write>(
         (LinesMoveAs form result (mount_lines form ++ lines.now)) }
 {
     if !form.is_of_calls() {
-        return run_lines(alloc, driver, device, notes, form, lines, out);
+        return run_lines(alloc, driver, device, notes, form, script, lines, out);
     }
     match mount(driver, device, notes, form, out) {
-        Ok(()) => run_lines(alloc, driver, device, notes, form, lines, out),
+        Ok(()) => run_lines(alloc, driver, device, notes, form, script, lines, out),
         Err(stop) => Err(stop),
     }
 }

@@ -7,6 +7,7 @@ ghost use Rattle.fw_script.specs.Outputs.{AppendsSome};
 ghost use Rattle.fw_drive.specs.Sources.{RunsAll, RunsSource};
 
 use crate::driver::Driver;
+use crate::fault::Unanswered;
 use crate::form::Form;
 use crate::given::run_lines_of;
 use crate::halt::Halt;
@@ -42,21 +43,22 @@ fn run_all<T: Tables, D: Device, S: LineSource<W>, W: Write>(
     }
 }
 
-/// Does on a new kernel what the lines of a source say. The second part says whether the server was wrong.
+/// Does on a new kernel what the lines of a source say. The second part says whether the server was wrong, and the third
+/// which requests wait for a reply.
 fn run_new<T: Tables, D: Device, S: LineSource<W>, W: Write>(
     alloc: T::Heap,
     task: Task<'_>,
     device: &mut D,
     source: &mut S,
     out: &mut W,
-) -> (Result<(), Halt>, bool)
+) -> (Result<(), Halt>, bool, Option<Unanswered>)
     ensures { (last : Driven) × RunsAll T.Heap D.logs S.gives S.is_over task.entry.form device.old device.new
         source.old source.new (W.contents out.old, false) (W.contents out.new, result.1)
         (first_driven task.entry.opens_directories) last result.0 }
 {
     let mut notes = match Notes::<T>::new(alloc, task.form) {
         Ok(notes) => notes,
-        Err(stop) => return (Err(Halt::Stopped(stop)), false),
+        Err(stop) => return (Err(Halt::Stopped(stop)), false, None),
     };
     let mut driver = Driver::<T>::new(alloc, task.opens_directories, task.free_fields);
     let ended = run_all(
@@ -69,9 +71,10 @@ fn run_new<T: Tables, D: Device, S: LineSource<W>, W: Write>(
         out,
     );
     let is_wrong = notes.is_wrong;
+    let waits = notes.unanswered();
     driver.end();
     notes.end();
-    (ended, is_wrong)
+    (ended, is_wrong, waits)
 }
 
 /// Runs the lines that a source gives on a new kernel, whose server stands behind a device: each is judged, run, and what
@@ -102,9 +105,9 @@ pub fn run_source<A: Allocator + Copy, D: Device, S: LineSource<W>, W: Write, F:
         task.entry.is_report_only device.old device.new source.old source.new (W.contents out.old) (W.contents out.new)
         (F.contents faults.old) (F.contents faults.new) result }
 {
-    let (ended, is_wrong) = run_new::<Maps<A>, D, S, W>(alloc, task, device, source, out);
+    let (ended, is_wrong, waits) = run_new::<Maps<A>, D, S, W>(alloc, task, device, source, out);
     match ended {
         Ok(()) => status_at_end(task.is_report_only, is_wrong),
-        Err(halt) => halt.report::<A, W, F>(task.name, out, faults),
+        Err(halt) => halt.report::<A, W, F>(task.name, waits, out, faults),
     }
 }

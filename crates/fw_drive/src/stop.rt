@@ -7,6 +7,8 @@ ghost use Rattle.fw_drive.specs.Findings.{end_status};
 ghost use Rattle.fw_drive.specs.Printed.{stop_line};
 ghost use Rattle.fw_drive.specs.Runs.{IsStopStatus, IsUnprinted, SaysStop, stop_of, stop_status};
 
+use crate::fault::Unanswered;
+use crate::naming::print_no_reply;
 use crate::printing::print_refusal;
 use fk_drive::DriveEnd;
 use fuse_device::DeviceEnd;
@@ -49,14 +51,18 @@ pub(crate) fn stop_at(end: DriveEnd) -> Stop
 }
 
 impl Stop {
-    /// Writes the line that says it.
-    fn write_line<A: Allocator, W: Write>(self, out: &mut W) -> Result<(), OutputRefused>
-        ensures ok { OnOk result (Appends (W.contents out.old) (W.contents out.new) (stop_line A self)) }
-        ensures refused { OnErr result (AppendsSome (W.contents out.old) (W.contents out.new) (stop_line A self)) }
+    /// Writes the line that says it, and where no reply came what waits for one.
+    fn write_line<A: Allocator, W: Write>(
+        self,
+        waits: Option<Unanswered>,
+        out: &mut W,
+    ) -> Result<(), OutputRefused>
+        ensures ok { OnOk result (Appends (W.contents out.old) (W.contents out.new) (stop_line A waits self)) }
+        ensures refused { OnErr result (AppendsSome (W.contents out.old) (W.contents out.new) (stop_line A waits self)) }
     {
         match self {
             Stop::ServerEnded => write_text(out, b"server ended\n"),
-            Stop::NoReply => write_text(out, b"no reply\n"),
+            Stop::NoReply => print_no_reply(out, waits),
             Stop::DeviceFailed => write_text(out, b"device failed\n"),
             Stop::TooMany => write_text(out, b"device failed: 10000 frames wait\n"),
             Stop::Refused(refusal) => print_refusal::<A, W>(out, refusal),
@@ -65,11 +71,15 @@ impl Stop {
     }
 
     /// Writes the line that says it, and hands it on.
-    fn say<A: Allocator, W: Write>(self, out: &mut W) -> Result<(), OutputRefused>
-        ensures ok { OnOk result (Appends (W.contents out.old) (W.contents out.new) (stop_line A self)) }
-        ensures refused { OnErr result (AppendsSome (W.contents out.old) (W.contents out.new) (stop_line A self)) }
+    fn say<A: Allocator, W: Write>(
+        self,
+        waits: Option<Unanswered>,
+        out: &mut W,
+    ) -> Result<(), OutputRefused>
+        ensures ok { OnOk result (Appends (W.contents out.old) (W.contents out.new) (stop_line A waits self)) }
+        ensures refused { OnErr result (AppendsSome (W.contents out.old) (W.contents out.new) (stop_line A waits self)) }
     {
-        match self.write_line::<A, W>(out) {
+        match self.write_line::<A, W>(waits, out) {
             Ok(()) => match out.flush() {
                 Ok(()) => Ok(()),
                 Err(_refused) => Err(OutputRefused),
@@ -89,14 +99,20 @@ impl Stop {
         }
     }
 
-    /// Says it, out of memory on `faults` and all else on the output, and gives the exit status.
-    pub(crate) fn report<A: Allocator, W: Write, F: Write>(self, out: &mut W, faults: &mut F) -> u8
+    /// Says it, out of memory on `faults` and all else on the output, and gives the exit status. Where no reply came it says
+    /// what waits for one.
+    pub(crate) fn report<A: Allocator, W: Write, F: Write>(
+        self,
+        waits: Option<Unanswered>,
+        out: &mut W,
+        faults: &mut F,
+    ) -> u8
         ensures status { IsStopStatus self result }
-        ensures says { SaysStop A (Err self) result (W.contents out.old) (W.contents out.new) }
+        ensures says { SaysStop A waits (Err self) result (W.contents out.old) (W.contents out.new) }
         ensures no_memory { result ≡ 3 → AppendsSome (F.contents faults.old) (F.contents faults.new) (codes "no memory\n") }
         ensures no_fault { (result ≡ 4) ⊎ (result ≡ 5) → faults.new ≡ faults.old }
     {
-        match self.say::<A, W>(out) {
+        match self.say::<A, W>(waits, out) {
             Ok(()) => match self.status() {
                 3 => no_memory(faults),
                 status => status,

@@ -50,6 +50,7 @@ returns-in-Ok-ended-clause-moves g c =
     let has = g.W.Write.contents c.run_good-ended.new.out in
     let r = c.run_good-ended.result.0 in
     let told = c.run_good-ended.result.1 in
+    let waits = c.run_good-ended.result.2 in
     let s = c.status_at_end.result in
     inl (runs_script _ g.D.Device.logs c.args.device.now c.run_good-ended.new.device (g.W.Write.contents c.args.out.now)
     (has, told) has c.args.task.form c.args.task.opens_directories c.args.task.is_report_only c.args.script.now
@@ -57,7 +58,8 @@ returns-in-Ok-ended-clause-moves g c =
     (subst (λ (t : Result (Unit {0}) Stop). OnOk t (s ≡ end_status c.args.task.is_report_only told)) (sym c.in-Ok-ended.is)
     c.status_at_end.ensures)
     (subst (λ (t : Result (Unit {0}) Stop). IfErr t (λ stop. IsStopStatus stop s)) (sym c.in-Ok-ended.is) tt)
-    (subst (λ (t : Result (Unit {0}) Stop). SaysStop g.row.A.Denot t s has has) (sym c.in-Ok-ended.is) refl)
+    waits
+    (subst (λ (t : Result (Unit {0}) Stop). SaysStop g.row.A.Denot waits t s has has) (sym c.in-Ok-ended.is) refl)
     c.run_good-ended.ensures)
 
 pub returns-clause-moves : goal.returns-clause-moves
@@ -66,6 +68,7 @@ returns-clause-moves g c =
     let has = g.W.Write.contents c.report.new.out in
     let r = c.run_good-ended.result.0 in
     let told = c.run_good-ended.result.1 in
+    let waits = c.run_good-ended.result.2 in
     let s = c.report.result in
     inl (runs_script _ g.D.Device.logs c.args.device.now c.run_good-ended.new.device (g.W.Write.contents c.args.out.now)
     (got, told) has c.args.task.form c.args.task.opens_directories c.args.task.is_report_only c.args.script.now
@@ -73,7 +76,8 @@ returns-clause-moves g c =
     (subst (λ (t : Result (Unit {0}) Stop). OnOk t (s ≡ end_status c.args.task.is_report_only told)) (sym c.in-Err-ended.is) tt)
     (subst (λ (t : Result (Unit {0}) Stop). IfErr t (λ stop. IsStopStatus stop s)) (sym c.in-Err-ended.is)
     c.report.ensures.status)
-    (subst (λ (t : Result (Unit {0}) Stop). SaysStop g.row.A.Denot t s got has) (sym c.in-Err-ended.is) c.report.ensures.says)
+    waits
+    (subst (λ (t : Result (Unit {0}) Stop). SaysStop g.row.A.Denot waits t s got has) (sym c.in-Err-ended.is) c.report.ensures.says)
     c.run_good-ended.ensures)
 
 pub returns-in-Ok-ended-clause-statuses : goal.returns-in-Ok-ended-clause-statuses

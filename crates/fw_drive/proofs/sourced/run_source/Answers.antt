@@ -16,7 +16,7 @@ returns-in-Ok-clause-runs g c =
     c.args.task.opens_directories c.args.task.is_report_only c.args.device.now c.run_new-ended.new.device
     c.args.source.now c.run_new-ended.new.source (g.W.Write.contents c.args.out.now)
     (g.W.Write.contents c.run_new-ended.new.out, c.run_new-ended.result.1) _ _ _ c.status_at_end.result
-    c.run_new-ended.result.0 c.in-Ok.is c.run_new-ended.ensures c.status_at_end.ensures refl refl
+    c.run_new-ended.result.0 c.in-Ok.is c.run_new-ended.ensures c.run_new-ended.result.2 c.status_at_end.ensures refl refl
 
 pub returns-in-Ok-clause-statuses : goal.returns-in-Ok-clause-statuses
 returns-in-Ok-clause-statuses g c =
@@ -28,17 +28,17 @@ returns-in-Ok-clause-no_memory g c three =
 
 pub returns-in-Err-clause-statuses : goal.returns-in-Err-clause-statuses
 returns-in-Err-clause-statuses g c =
-    halt_among g.row.A.Denot c.args.task.name.now c.args.task.is_report_only [] c.in-Err.halt c.report.result _ _ _ _
+    halt_among g.row.A.Denot c.run_new-ended.result.2 c.args.task.name.now c.args.task.is_report_only [] c.in-Err.halt c.report.result _ _ _ _
     (c.report.ensures c.args.task.is_report_only [])
 
 pub returns-in-Err-clause-no_memory : goal.returns-in-Err-clause-no_memory
 returns-in-Err-clause-no_memory g c =
-    halt_at_3 g.row.A.Denot c.args.task.name.now c.args.task.is_report_only [] c.in-Err.halt c.report.result _ _ _ _
+    halt_at_3 g.row.A.Denot c.run_new-ended.result.2 c.args.task.name.now c.args.task.is_report_only [] c.in-Err.halt c.report.result _ _ _ _
     (c.report.ensures c.args.task.is_report_only [])
 
 pub returns-in-Err-clause-no_fault : goal.returns-in-Err-clause-no_fault
 returns-in-Err-clause-no_fault g c =
-    halt_quiet g.row.A.Denot c.args.task.name.now c.args.task.is_report_only [] c.in-Err.halt c.report.result _ _ _ _
+    halt_quiet g.row.A.Denot c.run_new-ended.result.2 c.args.task.name.now c.args.task.is_report_only [] c.in-Err.halt c.report.result _ _ _ _
     (c.report.ensures c.args.task.is_report_only [])
 
 pub returns-in-Err-clause-drives : goal.returns-in-Err-clause-drives
@@ -53,7 +53,7 @@ returns-in-Err-clause-runs g c =
     c.args.task.opens_directories c.args.task.is_report_only c.args.device.now c.run_new-ended.new.device
     c.args.source.now c.run_new-ended.new.source (g.W.Write.contents c.args.out.now)
     (g.W.Write.contents c.run_new-ended.new.out, c.run_new-ended.result.1) _ _ _ c.report.result
-    c.run_new-ended.result.0 c.in-Err.halt c.in-Err.is c.run_new-ended.ensures c.report.ensures
+    c.run_new-ended.result.0 c.in-Err.halt c.in-Err.is c.run_new-ended.ensures c.run_new-ended.result.2 c.report.ensures
 
 pub returns-in-Ok-clause-rules : goal.returns-in-Ok-clause-rules
 returns-in-Ok-clause-rules g c =

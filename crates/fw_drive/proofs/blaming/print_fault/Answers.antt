@@ -1,8 +1,8 @@
-use Rattle.std.proofs.Common.{refl, codes}
+use Rattle.std.proofs.Common.{codes, refl}
+use Rattle.fw_drive.specs.Faults.{fault_words}
 use Rattle.fw_script.proofs.Writes.{OnErr-always, refused_then, some_first}
-use Rattle.fw_drive.specs.Notes.{fault_words}
 use Rattle.fw_drive.proofs.Texts.{taken_then}
-use Rattle.fw_drive.proofs.printing.print_fault.Goals as goal
+use Rattle.fw_drive.proofs.blaming.print_fault.Goals as goal
 
 pub returns-in_err-print_fault_words-clause-refused : goal.returns-in_err-print_fault_words-clause-refused
 returns-in_err-print_fault_words-clause-refused g c =
