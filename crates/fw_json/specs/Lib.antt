@@ -1,3 +1,4 @@
+pub mod Asked
 pub mod Events
 pub mod Fields
 pub mod Keys

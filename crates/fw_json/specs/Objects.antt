@@ -2,6 +2,7 @@
 use Rattle.std.specs.Prelude.{ℕ, Bool, List, [], ◌∷◌, ◌++◌, ◌||◌, ◌&&◌, Option, Some, None, bytes_eq, codes, drop, nat_eq, option_map, unwrap_or, if◌then◌else◌}
 use Rattle.std.specs.List.{starts_with}
 use Rattle.fw_script.specs.Words.{parts_left, words_of}
+use Rattle.fw_json.specs.Asked.{asked_fields, asked_of}
 use Rattle.fw_json.specs.Events.{event_of, keys_of, list_key_of}
 use Rattle.fw_json.specs.Fields.{fields, is_number, key_text, string_field}
 use Rattle.fw_json.specs.declared.event.Event.{Event}
@@ -78,8 +79,17 @@ is_end line = starts_with nat_eq line (codes "no reply") || starts_with nat_eq l
 abbrev pub kind_word : List ℕ → List ℕ
 kind_word line = if is_fault line then codes "fault" else if is_end line then codes "end" else codes "line"
 
+-- a fault or an end, with the request that it names
+abbrev pub finding_object : (is_first : Bool) → (line : List ℕ) → List ℕ
+finding_object is_first line =
+    object is_first (kind_word line) (asked_fields (asked_of line) ++ string_field key.Text line)
+
+abbrev pub kind_object : (is_first : Bool) → (line : List ℕ) → List ℕ
+kind_object is_first line = if is_fault line || is_end line then finding_object is_first line
+    else whole_object is_first (kind_word line) line
+
 abbrev pub other_object : (is_first : Bool) → (line : List ℕ) → Option (List ℕ × List ℕ) → List ℕ
-other_object is_first line None = whole_object is_first (kind_word line) line
+other_object is_first line None = kind_object is_first line
 other_object is_first line (Some judged) = judged_object is_first line judged.0 judged.1
 
 -- ---- lines

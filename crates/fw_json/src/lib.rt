@@ -1,6 +1,7 @@
 //! What `drive` prints, as JSON objects: one a line.
 #![tactic(auto)]
 
+mod asked;
 mod event;
 mod field;
 mod judged;

@@ -1,10 +1,13 @@
 //! The object of a line.
 
-ghost use Rattle.std.specs.Prelude.{◌≡◌, ◌++◌, ◌∷◌, OnOk, IfOk, codes};
-ghost use Rattle.fw_script.specs.Words.{words_of};
+ghost use Rattle.std.specs.Prelude.{◌≡◌, ◌++◌, ◌∷◌, OnOk, IfOk, codes, option_copied};
+ghost use Rattle.fw_script.specs.Words.{words_left, words_of};
+ghost use Rattle.fw_json.specs.Asked as asked_table;
+ghost use Rattle.fw_json.specs.Fields.{key_text, string_field};
 ghost use Rattle.fw_json.specs.Objects as table;
 ghost use Rattle.fw_json.specs.Putting.{PutsIf};
 
+use crate::asked::{Asked, Called, read_asked, read_called};
 use crate::event::Event;
 use crate::field::{put_fields, put_key, put_string_field};
 use crate::judged::{Judged, read_judged};
@@ -62,6 +65,18 @@ fn put_whole<A: Allocator>(
     put_head(text, is_first, event)?;
     put_string_field(text, Key::Text, line)?;
     put(text, b"}\n")
+}
+
+/// Puts a key and a number last.
+fn put_number_field<A: Allocator>(
+    text: &mut Vec<u8, A>,
+    key: Key,
+    number: &[u8],
+) -> Result<(), AllocError>
+    ensures { OnOk result (text.new.items ≡ text.old.items ++ (key_text key ++ number.now)) }
+{
+    put_key(text, key)?;
+    put(text, number)
 }
 
 /// Puts the number of a frame, and the line.
@@ -173,6 +188,96 @@ fn kind_word(line: &[u8]) -> &'static [u8]
     }
 }
 
+/// Puts the call that a request serves.
+fn put_called<A: Allocator>(text: &mut Vec<u8, A>, called: Called<'_>) -> Result<(), AllocError>
+    ensures { OnOk result (text.new.items
+        ≡ text.old.items ++ asked_table.called_fields (Some (called.entry.call.now, called.entry.line.now))) }
+{
+    put_number_field(text, Key::Call, called.call)?;
+    put_number_field(text, Key::Line, called.line)
+}
+
+/// Puts the call that a request serves by the words behind it, if they name one.
+fn put_served<A: Allocator>(text: &mut Vec<u8, A>, words: Option<&[u8]>) -> Result<(), AllocError>
+    ensures { OnOk result (text.new.items ≡ text.old.items
+        ++ asked_table.called_fields (asked_table.called_words (words_left (option_copied words.entry)))) }
+{
+    match read_called(words) {
+        Some(called) => put_called(text, called),
+        None => Ok(()),
+    }
+}
+
+/// Puts the opcode and the call of a request.
+fn put_named<A: Allocator>(
+    text: &mut Vec<u8, A>,
+    opcode: &[u8],
+    words: Option<&[u8]>,
+) -> Result<(), AllocError>
+    ensures { OnOk result (text.new.items ≡ text.old.items ++ (string_field Key.Opcode opcode.now
+        ++ asked_table.called_fields (asked_table.called_words (words_left (option_copied words.entry))))) }
+{
+    put_string_field(text, Key::Opcode, opcode)?;
+    put_served(text, words)
+}
+
+/// Puts a request.
+fn put_request<A: Allocator>(text: &mut Vec<u8, A>, asked: Asked<'_>) -> Result<(), AllocError>
+    ensures { OnOk result (text.new.items ≡ text.old.items ++ asked_table.asked_fields
+        (Some (asked.entry.opcode.now, asked.entry.unique.now, words_left (option_copied asked.entry.rest)))) }
+{
+    put_number_field(text, Key::Unique, asked.unique)?;
+    put_named(text, asked.opcode, asked.rest)
+}
+
+/// Puts the request that a line names, if it names one.
+fn put_asked<A: Allocator>(text: &mut Vec<u8, A>, line: &[u8]) -> Result<(), AllocError>
+    ensures { OnOk result (text.new.items
+        ≡ text.old.items ++ asked_table.asked_fields (asked_table.asked_of line.now)) }
+{
+    match read_asked(line) {
+        Some(asked) => put_request(text, asked),
+        None => Ok(()),
+    }
+}
+
+/// Puts the fields of a fault or an end.
+fn put_finding_fields<A: Allocator>(text: &mut Vec<u8, A>, line: &[u8]) -> Result<(), AllocError>
+    ensures { OnOk result (text.new.items ≡ text.old.items
+        ++ (asked_table.asked_fields (asked_table.asked_of line.now) ++ string_field Key.Text line.now)) }
+{
+    put_asked(text, line)?;
+    put_string_field(text, Key::Text, line)
+}
+
+/// Puts the object of a fault or an end.
+fn put_finding<A: Allocator>(
+    text: &mut Vec<u8, A>,
+    is_first: bool,
+    line: &[u8],
+) -> Result<(), AllocError>
+    ensures { OnOk result (text.new.items ≡ text.old.items ++ table.finding_object is_first line.now) }
+{
+    put_head(text, is_first, kind_word(line))?;
+    put_finding_fields(text, line)?;
+    put(text, b"}\n")
+}
+
+/// Puts the object of a line that has no words of an event's own, nor those of the judge of sessions.
+fn put_kind<A: Allocator>(
+    text: &mut Vec<u8, A>,
+    is_first: bool,
+    line: &[u8],
+) -> Result<(), AllocError>
+    ensures { OnOk result (text.new.items ≡ text.old.items ++ table.kind_object is_first line.now) }
+{
+    if is_fault(line) || is_end(line) {
+        put_finding(text, is_first, line)
+    } else {
+        put_whole(text, is_first, kind_word(line), line)
+    }
+}
+
 /// Puts the object of a line that has no words of an event's own.
 fn put_other<A: Allocator>(
     text: &mut Vec<u8, A>,
@@ -184,7 +289,7 @@ fn put_other<A: Allocator>(
 {
     match read_judged(line) {
         Some(judged) => put_judged(text, is_first, line, judged),
-        None => put_whole(text, is_first, kind_word(line), line),
+        None => put_kind(text, is_first, line),
     }
 }
 

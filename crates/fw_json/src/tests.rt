@@ -55,16 +55,32 @@ fn lists_what_an_answer_has(rt: HostRuntime) -> Result<(), Fail> {
 fn has_faults_ends_and_other_lines_whole(rt: HostRuntime) -> Result<(), Fail> {
     let json = json_of(
         rt.alloc(),
-        b"reply to nothing\nframe 9: server: second reply: unique 8\nframe 3: warning: x: y\nno reply\nread p 0\na\"\\\x01\n",
+        b"reply to nothing: 4\nframe 9: server: second reply: unique 8\nframe 3: warning: x: y\nno reply\nread p 0\na\"\\\x01\n",
     )?;
     assert_eq!(rt;
         json.as_slice(),
-        b"{\"event\":\"fault\",\"schema\":1,\"text\":\"reply to nothing\"}\n\
+        b"{\"event\":\"fault\",\"schema\":1,\"text\":\"reply to nothing: 4\"}\n\
 {\"event\":\"fault\",\"party\":\"server\",\"frame\":9,\"text\":\"frame 9: server: second reply: unique 8\"}\n\
 {\"event\":\"warning\",\"frame\":3,\"text\":\"frame 3: warning: x: y\"}\n\
 {\"event\":\"end\",\"text\":\"no reply\"}\n\
 {\"event\":\"line\",\"text\":\"read p 0\"}\n\
 {\"event\":\"line\",\"text\":\"a\\u0022\\u005c\\u0001\"}\n"
+            .as_slice()
+    );
+    Ok(())
+}
+
+#[test]
+fn has_the_request_that_a_fault_names(rt: HostRuntime) -> Result<(), Fail> {
+    let json = json_of(
+        rt.alloc(),
+        b"second reply: READ 12 of call 7, line 14\nbody is not its request's: INIT 2: 27 bytes\nno reply: LOOKUP 4 of call 1, line 2 and 3 more\n",
+    )?;
+    assert_eq!(rt;
+        json.as_slice(),
+        b"{\"event\":\"fault\",\"schema\":1,\"unique\":12,\"opcode\":\"READ\",\"call\":7,\"line\":14,\"text\":\"second reply: READ 12 of call 7, line 14\"}\n\
+{\"event\":\"fault\",\"unique\":2,\"opcode\":\"INIT\",\"text\":\"body is not its request's: INIT 2: 27 bytes\"}\n\
+{\"event\":\"end\",\"unique\":4,\"opcode\":\"LOOKUP\",\"call\":1,\"line\":2,\"text\":\"no reply: LOOKUP 4 of call 1, line 2 and 3 more\"}\n"
             .as_slice()
     );
     Ok(())
