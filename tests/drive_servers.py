@@ -155,6 +155,8 @@ def told(said):
     for line in said.splitlines():
         if line == OLDER or is_beside and re.match(r"(mounted|call|answer|now|kernel)\b", line):
             continue
+        # Which requests wait then is the server's own.
+        line = re.sub(r"^no reply: .*", "no reply", line)
         line = re.sub(r"\bdir \d+ \d+ \d+", "dir - - -", line)
         line = re.sub(r"\b(file|other) \d+ (\d+) (\d+)", r"\1 - \2 \3", line)
         line = re.sub(r"(?:\S+:\d+:(?:dir|file|other),? ?)+", sorted_names, line)

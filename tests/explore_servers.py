@@ -9,7 +9,6 @@ the first seed that has it; numbers of nodes, requests and calls are `-` there. 
 server whose Debian package is not there is skipped. It judges nothing: examples/explore/README.md has what was found.
 """
 import collections
-import errno
 import os
 import re
 import shutil
@@ -28,14 +27,14 @@ NAMES = sys.argv[3:] or ["passthrough_ll", "passthrough", "passthrough_fh", "hel
 WAIT = 2000  # milliseconds, for a reply
 EVENTS = 400
 SECONDS = 120  # the longest run
-FINDING = re.compile(r"^# (frame \d+: (?:server|kernel|device|warning): .*|reply to nothing|second reply|body is not .*|no reply.*"
+FINDING = re.compile(r"^# (frame \d+: (?:server|kernel|device|warning): .*|reply to nothing.*|second reply.*|body is not .*|no reply.*"
                      r"|node \d+ (?:under|given) .*|the root given .*|server ended|device failed.*|differs: .*)$")
 
 
-def kind_of(finding, calls):
+def kind_of(finding):
     """A finding without the numbers that are each run's own; an answer that differs with the word of its call."""
-    if match := re.match(r"differs: answer (\d+) (.*), here \d+ (.*)$", finding):
-        return f"{calls.get(match[1], '?')}: {answer_of(match[2])}, here {answer_of(match[3])}"
+    if match := re.match(r"differs: answer \d+ \(call (\S+).*\): (.*), here (.*)$", finding):
+        return f"{match[1]}: {answer_of(match[2])}, here {answer_of(match[3])}"
     return re.sub(r"\b\d+\b", "-", re.sub(r"^frame \d+: ", "", finding))
 
 
@@ -43,7 +42,7 @@ def answer_of(words):
     """An answer by its error, or what it gives."""
     number, _, rest = words.partition(" ")
     if number != "0":
-        return errno.errorcode.get(int(number), number)
+        return number
     rest = re.sub(r":\d+:", ":", rest)
     if ":" in rest:
         return " ".join(sorted(rest.split()))
@@ -52,15 +51,7 @@ def answer_of(words):
 
 def findings_of(lines):
     """The findings of a run, without numbers."""
-    calls, call, found = {}, "", []
-    for line in lines:
-        if line.startswith("call "):
-            call = line.split()[1]
-        elif match := re.match(r"# call (\d+)$", line):
-            calls[match[1]] = call
-        elif match := FINDING.match(line):
-            found.append(kind_of(match[1], calls))
-    return found
+    return [kind_of(match[1]) for match in map(FINDING.match, lines) if match]
 
 
 def explore(built, server, seed):

@@ -119,15 +119,15 @@ LOST = [*MOUNTED, "call 1", "read 4 CREATE 58", "written 4 0", "answer 1 0", "ca
         "written 6 0", "dropped", "call 3", "read 8 LOOKUP 42", "evicted 2 1", "read 10 FORGET 48", "written 8 0",
         "read 12 GETATTR 56", "written 12 0", "answer 3 0 file 2 0 1", "kernel 2:0:1"]
 FOUND = {
-    "count lost": (CALLS, "differs: answer 4 116, here 4 0 file 3 2 1"),
-    "node reused": (CALLS, "node 3 given for two files at once"),
-    "two generations": (CALLS, "node 3 under two generations"),
-    "reply twice": (CALLS, "second reply"),
-    "reply after EINTR": (SIGNAL, "second reply"),
-    "wrong length": (CALLS, "body is not its request's"),
-    "another file": (CALLS, "node 3 given for two files at once"),
-    "root given": (CALLS, "the root given for a name"),
-    "reply to nothing": (CALLS, "reply to nothing"),
+    "count lost": (CALLS, "differs: answer 4 (call stat /d/f, line 4): ESTALE 116, here 0 file 3 2 1"),
+    "node reused": (CALLS, "node 3 given for two files at once: CREATE 18 of call 8, line 8: file 4, before file 3"),
+    "two generations": (CALLS, "node 3 under two generations: CREATE 18 of call 8, line 8: 1, before 0"),
+    "reply twice": (CALLS, "second reply: GETATTR 10 of call 4, line 4"),
+    "reply after EINTR": (SIGNAL, "second reply: LOOKUP 4 of call 1, line 4"),
+    "wrong length": (CALLS, "body is not its request's: GETATTR 10 of call 4, line 4: 112 bytes, 104 are right"),
+    "another file": (CALLS, "node 3 given for two files at once: GETATTR 10 of call 4, line 4: dir 2, before file 3"),
+    "root given": (CALLS, "the root given for a name: MKDIR 4 of call 1, line 1"),
+    "reply to nothing": (CALLS, "reply to nothing: 1000"),
 }
 
 # What Linux answers otherwise than the world beside: CREATE opens a file that is there, and finds that a directory is one; a
@@ -139,9 +139,9 @@ OTHERWISE = ["call mkdir /d", "call create /d/f", "call write 2 0 6869", "call c
 ANSWERED_OTHERWISE = ["answer 5 0", "answer 6 0 6869", "answer 9 9", "answer 10 21", "answer 11 39", "answer 13 21", "answer 15 0 686921",
                       "answer 24 39", "answers 24 differ 0"]
 FOUND_OTHERWISE = {
-    "a file is a directory": "differs: answer 5 21, here 5 17",
-    "a directory is opened": "differs: answer 10 0, here 10 17",
-    "any directory is above": "differs: answer 13 39, here 13 21",
+    "a file is a directory": "differs: answer 5 (call create /d/f, line 5): EISDIR 21, here EEXIST 17",
+    "a directory is opened": "differs: answer 10 (call create /d, line 10): 0, here EEXIST 17",
+    "any directory is above": "differs: answer 13 (call rename /d/f /e, line 13): ENOTEMPTY 39, here EISDIR 21",
 }
 
 
@@ -163,7 +163,7 @@ def run_bugs():
         judge(f"{bug}: {line}", (line in lines, status), (True, 6))
         judge(f"{bug}, --report-only", on_server([*form_of(script), "--report-only"], script, bug=bug)[:2], (lines, 0))
         first = next((line for line in lines if FAULTS.match(line)), None)
-        judge(f"{bug}: nothing else is said before", first in (line, "differs: answer 3 116, here 3 0 2"), True)
+        judge(f"{bug}: nothing else is said before", first in (line, "differs: answer 3 (call write 2 0 6869, line 3): ESTALE 116, here 0 2"), True)
 
 
 def run_otherwise():
@@ -202,6 +202,9 @@ def run_fields():
 AGREES = [reply(2, agreement())]
 STAT = [*MOUNT, "call stat /", "read p 0", "write"]
 STATED = [*MOUNTED, "call 1", "read 4 GETATTR 56"]
+# How that request is named, in words and as JSON.
+ASKED = "GETATTR 4 of call 1, line 4"
+NAMED = '"unique":4,"opcode":"GETATTR","call":1,"line":4,'
 ANSWERED = ["written 4 0", "answer 1 0 dir 1 0 1", "kernel"]
 ATTR = reply(4, bytes(16) + Server().attr(1))
 SHORT_WAIT = ["--wait", "500"]
@@ -215,21 +218,23 @@ def run_frames():
     for cut in (1, 4, 15, 16, len(ATTR) - 1):
         judge(f"a frame in two pieces, cut at {cut}", on_frames([], STAT, AGREES, [ATTR[:cut], ATTR[cut:]]), whole)
     judge("two frames in one write", on_frames([], [*STAT, "write"], AGREES, [ATTR + reply(6)]),
-          ([*STATED, *ANSWERED[:2], "written 6 2", "reply to nothing", "kernel"], 6))
+          ([*STATED, *ANSWERED[:2], "written 6 2", "reply to nothing: 6", "kernel"], 6))
     for error in (5, -512):
         judge(f"an error of {error} in a reply", on_frames([], [*STAT, "write"], AGREES, [struct.pack("<IiQ", 16, error, 4), ATTR]),
-              ([*STATED, "written 0 22", "no reply's head", *ANSWERED], 6))
+              ([*STATED, "written 0 22", f"no reply's head: error {error}", *ANSWERED], 6))
     for length in (0, 15, 131073, 0xffffffff):
         judge(f"a len of {length}", on_frames([], STAT, AGREES, [struct.pack("<IiQ", length, 0, 4)]), ([*STATED, "device failed"], 4))
     judge("a frame is cut short by the end", on_frames([], STAT, AGREES, [ATTR[:20], CLOSE]), ([*STATED, "device failed"], 4))
     judge("a frame is cut short by silence", on_frames(SHORT_WAIT, STAT, AGREES, [ATTR[:20]]), ([*STATED, "device failed"], 4))
     judge("a notification", on_frames([], STAT, AGREES, [NOTICE, ATTR]), ([*STATED, NOTIFIED, *ANSWERED], 0))
     judge("no notification: number 0 without a code", on_frames([], [*STAT, "write"], AGREES, [reply(0), ATTR]),
-          ([*STATED, "written 0 2", "reply to nothing", *ANSWERED], 6))
+          ([*STATED, "written 0 2", "reply to nothing: 0", *ANSWERED], 6))
     judge("a body beside an error", on_frames([], STAT, AGREES, [reply(4, bytes(8), error=2)]),
-          ([*STATED, "written 4 22", "body is not its request's", "answer 1 5", "kernel"], 6))
-    judge("no reply", on_frames(SHORT_WAIT, STAT, AGREES), ([*STATED, "no reply"], 4))
-    judge("no reply to INIT", on_frames([*SHORT_WAIT, "--calls"], ["call stat /"]), (["mounted", "no reply"], 4))
+          ([*STATED, "written 4 22", f"body is not its request's: {ASKED}: 8 bytes, 0 are right", "answer 1 5", "kernel"], 6))
+    judge("no reply", on_frames(SHORT_WAIT, STAT, AGREES), ([*STATED, f"no reply: {ASKED}"], 4))
+    two = [*STAT[:-1], "call stat /", "read p 0", "write"]
+    judge("no reply to several", on_frames(SHORT_WAIT, two, AGREES), ([*STATED, "call 2", "read 6 GETATTR 56", f"no reply: {ASKED} and 1 more"], 4))
+    judge("no reply to INIT", on_frames([*SHORT_WAIT, "--calls"], ["call stat /"]), (["mounted", "no reply: INIT 2"], 4))
     judge("an end at once", drive(["--calls"], ["call stat /"], lambda connection: None)[:2], (["mounted", "server ended"], 4))
 
 
@@ -265,7 +270,7 @@ def run_agreements():
         judge(f"7.{minor}", on_frames([], STAT, [reply(2, agreement(minor)[:size])], [ATTR]), wanted)
     for minor, size in [(28, 24), (23, 24), (14, 24), (19, 23)]:
         judge(f"7.{minor} of another length", on_frames(SHORT_WAIT, STAT, [reply(2, agreement(minor)[:size])], [ATTR]),
-              ([*MOUNTED[:2], "written 2 22", "body is not its request's", *ended[3:]], 4))
+              ([*MOUNTED[:2], "written 2 22", f"body is not its request's: INIT 2: {size} bytes", *ended[3:]], 4))
     judge("INIT fails", on_frames(SHORT_WAIT, STAT, [reply(2, error=5)], [ATTR]), (ended, 4))
 
 
@@ -276,7 +281,7 @@ def run_opendir():
     begun = [*MOUNTED, "call 1", "read 4 GETATTR 56", "call 2"]
     judge("a reply that comes before OPENDIR's waits", on_frames([], script, AGREES, [], [ATTR, opened], [reply(6)], [reply(own + 2)]),
           ([*begun, "read 6 READDIR 80", *ANSWERED[:2], "written 6 0", "answer 2 0", "kernel"], 0))
-    wrong = ["body is not its request's"]
+    wrong = [f"body is not its request's: OPENDIR {own}"]
     for said, error, lines in [(reply(own, error=13), 13, []), (reply(own, error=5), 5, []), (reply(own), 5, wrong), (reply(own, bytes(8)), 5, wrong)]:
         judge(f"OPENDIR is {error}", on_frames([], ["mount 0 0", "read p 0", "write", "call list / 0", "read p 0"], AGREES, [said]),
               ([*MOUNTED, "call 1", *lines, "read 4 READDIR 80", f"answer 1 {error}", "kernel"], 6 if lines else 0))
@@ -286,21 +291,23 @@ def run_opendir_bugs():
     """What a server does wrong at OPENDIR and RELEASEDIR is said."""
     script = ["call mkdir /d", "call list / 0", "call list / 0", "call stat /"]
     good = ["answer 1 0", "answer 2 0 d:1:dir", "answer 3 0 d:1:dir", "answer 4 0 dir 1 0 1"]
-    faults = {"twice": "second reply", "length": "body is not its request's", "error": "no reply's head"}
+    own = 1 << 62
+    faults = {"twice": "second reply: {0} {1}", "length": "body is not its request's: {0} {1}", "error": "no reply's head: unique {1}"}
     for bug in OPENDIR_BUGS:
         name, what = bug.split()
         lines, status, _ = on_server(["--calls"], script, bug=bug)
         answers = [line.replace(" 0 d:1:dir", " 5") for line in good] if bug == "OPENDIR length" else good
         judge(bug, ([line for line in lines if line.startswith("answer")], status), (answers, 6))
-        judge(f"{bug}: what is said", [line for line in lines if FAULTS.match(line)], [faults[what]] * 2)
-    own = 1 << 62
+        # A directory that could not be opened is not released.
+        numbers = (own, own + 2) if bug == "OPENDIR length" else (own, own + 4) if name == "OPENDIR" else (own + 2, own + 6)
+        judge(f"{bug}: what is said", [line for line in lines if FAULTS.match(line)], [faults[what].format(name, number) for number in numbers])
     listing = [*MOUNT, "call list / 0", "read p 0", "write"]
     begun = [*MOUNTED, "call 1"]
     judge("an error of -512 to OPENDIR, and no other reply",
-          on_frames(SHORT_WAIT, listing, AGREES, [struct.pack("<IiQ", 16, -512, own)]), ([*begun, "no reply's head", "no reply"], 4))
+          on_frames(SHORT_WAIT, listing, AGREES, [struct.pack("<IiQ", 16, -512, own)]), ([*begun, f"no reply's head: unique {own}", "no reply"], 4))
     judge("an error of 5 to OPENDIR, said once", on_frames([], [*listing, "write"], AGREES,
           [struct.pack("<IiQ", 16, 5, own), reply(own, struct.pack("<QII", 7, 0, 0))], [reply(4)], [reply(own + 2)]),
-          ([*begun, "no reply's head", "read 4 READDIR 80", "written 0 22", "written 4 0", "answer 1 0", "kernel"], 6))
+          ([*begun, f"no reply's head: unique {own}", "read 4 READDIR 80", "written 0 22", "written 4 0", "answer 1 0", "kernel"], 6))
 
 
 def run_releasedir():
@@ -344,7 +351,7 @@ def run_releasedir():
             "answer 2 0 dir 1 0 1", "kernel"], 0))
     judge("an error of 5 to RELEASEDIR, and no other reply",
           on_frames(SHORT_WAIT, listing, AGREES, [opened], [reply(4)], [struct.pack("<IiQ", 16, 5, own + 2)]),
-          ([*MOUNTED, "call 1", "read 4 READDIR 80", "no reply's head", "written 4 0", "no reply"], 4))
+          ([*MOUNTED, "call 1", "read 4 READDIR 80", f"no reply's head: unique {own + 2}", "written 4 0", "no reply"], 4))
     for count, last, status in [(9999, ["answer 1 0", "kernel"], 0), (10000, ["device failed: 10000 frames wait"], 4)]:
         judge(f"{count} frames wait before RELEASEDIR's reply",
               on_frames([], listing, AGREES, [opened], [reply(4)], [reply(6) * count + reply(own + 2)]), ([*listed, *last], status))
@@ -355,7 +362,7 @@ def run_many():
     script = [*MOUNT, "call list / 0", "read p 0", "write"]
     begun = [*MOUNTED, "call 1"]
     opened = reply(1 << 62, struct.pack("<QII", 7, 0, 0))
-    for count, last in [(9999, ["read 4 READDIR 80", "written 6 2", "reply to nothing", "kernel"]), (10000, ["device failed: 10000 frames wait"])]:
+    for count, last in [(9999, ["read 4 READDIR 80", "written 6 2", "reply to nothing: 6", "kernel"]), (10000, ["device failed: 10000 frames wait"])]:
         judge(f"{count} frames wait", on_frames([], script, AGREES, [reply(6) * count + opened]), ([*begun, *last], 6 if count < 10000 else 4))
     last = ["read 4 READDIR 80", "written 4 0", "answer 1 0", "kernel"]
     judge("20000 notifications", on_frames([], script, AGREES, [NOTICE * 20000 + opened], [reply(4)], [reply((1 << 62) + 2)]), ([*begun, *[NOTIFIED] * 20000, *last], 0))
@@ -457,7 +464,7 @@ def run_waits():
     writes = [line for _ in range(100) for line in (f"call write 1 0 {'00' * 4096}", "read p 0")]
     ended("a server that reads nothing", [*MOUNT, "call create /f", "read p 0", "write", *writes], reads_nothing, ["device failed"])
     # The time may be over between two frames or in the middle of one, whose rest has come then.
-    ended("a server that keeps talking", STAT, talks, ["no reply"])
+    ended("a server that keeps talking", STAT, talks, [f"no reply: {ASKED}"])
     ended("a reply of a byte a tenth of a second", STAT, dribbles, ["device failed"])
 
 
@@ -524,7 +531,7 @@ def run_input():
 
 def run_packets():
     """On a SOCK_SEQPACKET socket as standard input and output, the lines go to standard error."""
-    for answers, wanted, status in [([AGREES[0], ATTR], [*STATED, *ANSWERED], 0), (AGREES, [*STATED, "no reply"], 4)]:
+    for answers, wanted, status in [([AGREES[0], ATTR], [*STATED, *ANSWERED], 0), (AGREES, [*STATED, f"no reply: {ASKED}"], 4)]:
         ours, theirs = socket.socketpair(socket.AF_UNIX, socket.SOCK_SEQPACKET)
         theirs.setsockopt(socket.SOL_SOCKET, socket.SO_RCVTIMEO, struct.pack("ll", 0, 300_000))
         ours.settimeout(SECONDS)
@@ -583,7 +590,7 @@ def run_check():
         for opens in (True, False):
             judge(f"--check of what is right, OPENDIR {opens}", on_server([*words, "--check"], script, opens=opens)[:2], (wanted, 0))
     begun = [*MOUNTED, "call 1", "read 4 GETATTR 56"]
-    two = [*ANSWERED[:2], "written 4 2", "second reply", "kernel"]
+    two = [*ANSWERED[:2], "written 4 2", f"second reply: {ASKED}", "kernel"]
     # Frame 1 is `= several readers`, where OPENDIRs may be sent. Then come INIT, its reply, GETATTR, its reply and that again.
     for words, number in [([], 6), (["--no-opendir"], 5)]:
         said = "server: second reply: unique 4"
@@ -595,10 +602,10 @@ def run_check():
     said = "server: body that is not its request's"
     lines, status, capture, judged, found = on_captured(["--check"], STAT, AGREES, [reply(4, bytes(8))])
     judge("--check of a short body", (lines, status),
-          ([*begun, f"frame 5: {said}", "written 4 22", "body is not its request's", "answer 1 5", "kernel"], 6))
+          ([*begun, f"frame 5: {said}", "written 4 22", f"body is not its request's: {ASKED}: 8 bytes, 104 are right", "answer 1 5", "kernel"], 6))
     judge("check of its capture", (capture[-1], judged, found), (f"< {reply(4, bytes(8)).hex()} EINVAL", [f"line 5: {said}"], 6))
     judge("without --check", on_captured([], STAT, AGREES, [reply(4, bytes(8))])[1:], (6, capture, judged, found))
-    judge("--check of no reply", on_captured([*SHORT_WAIT, "--check"], STAT, AGREES)[:2], ([*STATED, "no reply"], 4))
+    judge("--check of no reply", on_captured([*SHORT_WAIT, "--check"], STAT, AGREES)[:2], ([*STATED, f"no reply: {ASKED}"], 4))
     lines = drive(["--capture", "/dev/full"], STAT, answering(AGREES, [ATTR]))
     judge("a full file", lines[:2], ([*STATED, *ANSWERED, "capture refused"], 0))
     lines, status = on_frames(["--capture", "/nowhere/capture"], STAT)
@@ -697,11 +704,11 @@ def run_json():
     judge("--json", (lines, status), ([*begun, '{"event":"notification","code":2,"len":40}', '{"event":"written","unique":4,"result":0}',
           '{"event":"answer","call":1,"error":0,"values":["dir","1","0","1"]}', '{"event":"kernel","nodes":[]}'], 0))
     lines, status = on_frames(["--json", *SHORT_WAIT], STAT, AGREES)
-    judge("--json of no reply", (lines, status), ([*begun, '{"event":"end","text":"no reply"}'], 4))
+    judge("--json of no reply", (lines, status), ([*begun, '{"event":"end",' + NAMED + f'"text":"no reply: {ASKED}"}}'], 4))
     lines, status = on_frames(["--json", "--check"], STAT, AGREES, [reply(4, bytes(8))])
     judge("--json of faults", (lines, status), ([*begun,
           '{"event":"fault","schema":1,"party":"server","frame":5,"text":"frame 5: server: body that is not its request\'s"}',
-          '{"event":"written","unique":4,"result":22}', '{"event":"fault","text":"body is not its request\'s"}',
+          '{"event":"written","unique":4,"result":22}', '{"event":"fault",' + NAMED + f'"text":"body is not its request\'s: {ASKED}: 8 bytes, 104 are right"}}',
           '{"event":"answer","call":1,"error":5,"values":[]}', '{"event":"kernel","nodes":[]}'], 6))
 
 

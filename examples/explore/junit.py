@@ -2,8 +2,8 @@
 """Turns what `fuseworld drive --json` prints, on standard input, into JUnit XML, or into TAP with --tap.
 
 A test is a call: its name is its number, and its line where that was printed, as --random does. It fails where its
-answer is another than in the world beside, where a fault is printed before the next call, and where the run ends
-without its answer. What is printed before the first call belongs to the test `mount`. Status 1 where a test fails.
+answer is another than in the world beside, where a fault names it, or names none and is printed before the next call,
+and where the run ends without its answer. What is printed before the first call belongs to the test `mount`. Status 1 where a test fails.
 """
 import json
 import re
@@ -23,8 +23,8 @@ def read_tests(lines):
             tests.append((f"call {event['call']}{behind}", []))
             line = ""
         elif event["event"] in ("fault", "end"):
-            found = re.match(r"differs: answer (\d+)", event["text"])
-            place = numbers.get(int(found[1]), -1) if found else -1
+            found = re.search(r"^differs: answer (\d+)| of call (\d+), line ", event["text"])
+            place = numbers.get(int(found[1] or found[2]), -1) if found else -1
             tests[place][1].append(event["text"])
     return tests
 

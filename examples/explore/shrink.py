@@ -13,6 +13,7 @@ and where all are alike, what the judge warns of. The first fault of the whole s
 it as comments; SCRIPT.short.capture what went over the device, and SCRIPT.short.svg a picture of it.
 """
 import argparse
+import errno
 import os
 import re
 import subprocess
@@ -24,6 +25,9 @@ from pathlib import Path
 WRONG = re.compile(r"(reply to nothing|second reply|no reply's head|body is not its request's|node \d+ under two generations"
                    r"|node \d+ given for two files at once|the root given for a name|differs: |frame \d+: server: )")
 ODD = re.compile(r"frame \d+: warning: ")
+# What names a request, and what stands behind it; and the words of a call whose answer differs. Each script has others.
+ASKED = re.compile(r": [A-Z]+ \d+( of call|:|$| and ).*")
+CALLED = re.compile(r" \(.*\): ")
 # The lines that name a call by its number, and which word that is.
 NAMES_CALL = {"intr": 1, "call read": 2, "call write": 2, "call close": 2}
 
@@ -130,8 +134,15 @@ def differing(lines, others):
     for line in lines:
         here = answers.get(line.split(" ")[1]) if line.startswith("answer ") else None
         if here and said_of(line) != said_of(here):
-            return [f"differs: {line}, here {here.split(' ', 1)[1]}"]
+            return [f"differs: answer {line.split(' ')[1]}: {said_answer(line)}, here {said_answer(here)}"]
     return []
+
+
+def said_answer(line):
+    """What an answer's line says behind the call, with the name of an error."""
+    words = line.split(" ")[2:]
+    name = errno.errorcode.get(int(words[0])) if words[:1] != ["0"] else None
+    return " ".join([*([name] if name else []), *words])
 
 
 def tried(asked, script, capture=None):
@@ -158,9 +169,14 @@ def driven(asked, script, capture):
 
 
 def fault_in(line, asked):
-    """The fault that a line says, without its numbers: the one that is asked for, or any; or None."""
+    """The fault that a line says, without its numbers and the request or call that it names: the one that is asked for, or any;
+    or None."""
     is_fault = asked.fault in line if asked.fault else (ODD if asked.is_odd else WRONG).match(line)
-    return re.sub(r"\d+", "N", line) if is_fault else None
+    if not is_fault:
+        return None
+    if not line.startswith("frame "):
+        line = CALLED.sub(": ", line) if line.startswith("differs: ") else ASKED.sub("", line)
+    return re.sub(r"\d+", "N", line)
 
 
 def shrunk(lines, is_wrong):

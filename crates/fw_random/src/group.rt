@@ -7,7 +7,8 @@ use crate::alike::{
 use crate::beside::Beside;
 use crate::plan::Plan;
 use crate::text::{put, put_number, word_at, words_behind};
-use fw_drive::NoLine;
+use fw_drive::{NoLine, name_of_errno};
+use fw_script::read_number;
 use std::alloc::Allocator;
 use std::io::Write;
 
@@ -70,23 +71,38 @@ pub(crate) fn copied<A: Allocator>(alloc: A, text: &[u8]) -> Result<Vec<u8, A>, 
     Ok(copy)
 }
 
-/// Prints that an answer differs from that of the world beside.
+/// Appends the words of an answer, behind the name of the error that it is, if it is one.
+fn put_answer<A: Allocator>(line: &mut Vec<u8, A>, words: &[u8]) -> Result<(), NoLine> {
+    let name = match read_number(words) {
+        Some(number) => match u32::try_from(number) {
+            Ok(errno) => name_of_errno(errno),
+            Err(_) => None,
+        },
+        None => None,
+    };
+    if let Some(name) = name {
+        put(line, name.as_bytes())?;
+        put(line, b" ")?;
+    }
+    put(line, words)
+}
+
+/// Prints that the answer to a call differs from that of the world beside.
 fn print_difference<A: Allocator, W: Write>(
     alloc: A,
-    number: u64,
-    answer: &[u8],
+    called: &Called<A>,
     here: &[u8],
     out: &mut W,
 ) -> Result<(), NoLine> {
     let mut line = Vec::new(alloc);
     put(&mut line, b"differs: answer ")?;
-    put_number(&mut line, number)?;
-    put(&mut line, b" ")?;
-    put(&mut line, answer)?;
+    put_number(&mut line, called.number)?;
+    put(&mut line, b" (")?;
+    put(&mut line, called.line.as_slice())?;
+    put(&mut line, b"): ")?;
+    put_answer(&mut line, called.answer.as_slice())?;
     put(&mut line, b", here ")?;
-    put_number(&mut line, number)?;
-    put(&mut line, b" ")?;
-    put(&mut line, here)?;
+    put_answer(&mut line, here)?;
     put(&mut line, b"\n")?;
     match out.write_all(line.as_slice()) {
         Ok(()) => Ok(()),
@@ -212,7 +228,7 @@ impl<A: Allocator + Copy> Group<A> {
             called.is_right = is_right || (self.is_signalled && is_interrupted(answer));
             if says && !called.is_right {
                 wrong = wrong.saturating_add(1);
-                print_difference(self.alloc, called.number, answer, here.as_slice(), out)?;
+                print_difference(self.alloc, called, here.as_slice(), out)?;
             }
         }
         Ok(wrong)
@@ -254,7 +270,7 @@ impl<A: Allocator + Copy> Group<A> {
                 here.as_slice(),
             )? {
                 wrong = wrong.saturating_add(1);
-                print_difference(self.alloc, called.number, answer, here.as_slice(), out)?;
+                print_difference(self.alloc, called, here.as_slice(), out)?;
             }
         }
         Ok(wrong)

@@ -46,7 +46,7 @@ fn an_answer_beside_is_compared(rt: HostRuntime) -> Result<(), Fail> {
     let frames = [INIT_REPLY, OPENDIR_REPLY, LIST_REPLY, RELEASEDIR_REPLY];
     let driven = drive(rt.alloc(), Form::CallsBeside, "call list / 0\n", &frames)?;
     let printed =
-        "mounted\ncall 1\nanswer 1 0 x:1:file\ndiffers: answer 1 0 x:1:file, here 1 0\nkernel\nanswers 1 differ 1\n";
+        "mounted\ncall 1\nanswer 1 0 x:1:file\ndiffers: answer 1 (call list / 0, line 1): 0 x:1:file, here 0\nkernel\nanswers 1 differ 1\n";
     assert_eq!(rt; driven.out.as_slice(), printed.as_bytes());
     assert_eq!(rt; driven.status, 6);
     Ok(())

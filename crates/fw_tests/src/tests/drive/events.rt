@@ -27,7 +27,7 @@ fn what_is_wrong_is_said(rt: HostRuntime) -> Result<(), Fail> {
     let frames = [NOTIFICATION, OLDER_REPLY, OLDER_REPLY, ATTR_REPLY];
     let driven = drive(rt.alloc(), Form::Events, script, &frames)?;
     let printed =
-        "mounted\nread 2 INIT 56\nnotification 3 40\nwritten 2 0\n7.28 taken as 7.31\nwritten 2 2\nsecond reply\nwritten 4 2\nreply to nothing\nserver ended\n";
+        "mounted\nread 2 INIT 56\nnotification 3 40\nwritten 2 0\n7.28 taken as 7.31\nwritten 2 2\nsecond reply: INIT 2\nwritten 4 2\nreply to nothing: 4\nserver ended\n";
     assert_eq!(rt; driven.out.as_slice(), printed.as_bytes());
     assert_eq!(rt; driven.status, 4);
     Ok(())
