@@ -92,7 +92,7 @@ func TestServerIsDriven(t *testing.T) {
 	}
 	lines, err = Drive([]string{"call stat /"}, (&server{twice: true}).serve, "--calls")
 	for _, line := range lines {
-		if line == "second reply: GETATTR 4 of call 1, line 1" {
+		if line == "second reply: INIT 2" {
 			return
 		}
 	}

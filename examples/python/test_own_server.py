@@ -124,7 +124,7 @@ class OwnServer(unittest.TestCase):
         """A server that sends each reply twice, driven: which fault is printed."""
         self.server.answer = lambda frame, once=self.server.answer: (once(frame) or b"") * 2
         driven = fuseworld.drive(["call stat /"], lambda connection: serve(connection, self.server), "--calls")
-        self.assertIn("second reply: GETATTR 4 of call 1, line 1", driven.faults)
+        self.assertIn("second reply: INIT 2", driven.faults)
 
     def test_session(self):
         """A session of this kernel and this server, judged."""

@@ -139,5 +139,5 @@ fn a_server_is_driven() {
     assert_eq!(lines.last().unwrap(), "answers 1 differ 0");
     let wrong = Server { twice: true, ..Server::default() };
     let lines = drive(&["call stat /"], &["--calls"], |stream| wrong.serve(stream)).unwrap();
-    assert!(lines.contains(&"second reply: GETATTR 4 of call 1, line 1".to_string()), "{lines:?}");
+    assert!(lines.contains(&"second reply: INIT 2".to_string()), "{lines:?}");
 }
