@@ -178,8 +178,8 @@ fn high_name_of(number: u32) -> Option<&'static str>
     }
 }
 
-/// The name of an error (asm-generic/errno-base.h, asm-generic/errno.h).
-fn name_of(number: u32) -> Option<&'static str>
+/// The name of an error by its number on Linux (asm-generic/errno-base.h, asm-generic/errno.h), or none where it has none.
+pub fn name_of_error(number: u32) -> Option<&'static str>
     ensures { option_map (λ name. name.now) result ≡ error_name number }
 {
     if number < 45 {
@@ -200,7 +200,7 @@ fn name_of(number: u32) -> Option<&'static str>
 pub(crate) fn write_error<W: Write>(out: &mut W, number: u32) -> io::Result<()>
     ensures { OnOk result (Appends (W.contents out.old) (W.contents out.new) (error_words number)) }
 {
-    match name_of(number) {
+    match name_of_error(number) {
         Some(name) => write!(out, "{name}"),
         None => write!(out, "E{number}"),
     }

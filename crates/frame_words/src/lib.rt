@@ -11,6 +11,7 @@ mod replies;
 mod requests;
 mod words;
 
+pub use errors::name_of_error;
 pub use frames::{
     words_of_reply_fault, words_of_shape_fault, write_reply_frame, write_reply_head,
     write_request_frame,

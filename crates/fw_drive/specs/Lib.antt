@@ -1,6 +1,5 @@
 pub mod Acts
 pub mod DriveLines
-pub mod Errnos
 pub mod Faults
 pub mod Findings
 pub mod Inputs

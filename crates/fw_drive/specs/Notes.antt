@@ -2,8 +2,8 @@
 use Rattle.std.specs.Prelude.{◌++◌, [], ℕ, List, Option, Some, None, codes, decimal, flat_map}
 use Rattle.fk_syscalls.specs.declared.call.Answer.{Answer}
 use Rattle.fk_syscalls.specs.declared.call.Answer.TheVariants as answers
+use Rattle.frame_words.specs.Errors.{error_name}
 use Rattle.fw_script.specs.Records.{answer_words}
-use Rattle.fw_drive.specs.Errnos.{errno_name}
 use Rattle.fw_drive.specs.Faults.{fault_words}
 use Rattle.fw_drive.specs.declared.fault.Fault.{Fault}
 
@@ -28,7 +28,7 @@ name_words (Some name) = name ++ codes " "
 
 abbrev pub errno_words : Option ℕ → List ℕ
 errno_words None = []
-errno_words (Some errno) = name_words (errno_name errno)
+errno_words (Some errno) = name_words (error_name errno)
 
 -- the error that an answer is, if it is one
 abbrev pub failed_errno : {A : Type 0} → Answer A → Option ℕ

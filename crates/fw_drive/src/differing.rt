@@ -2,17 +2,17 @@
 
 ghost use Rattle.std.specs.Prelude.{◌≡◌, ◌++◌, ℕ, IfErr, IfOk, List, OnErr, OnOk, codes, decimal};
 ghost use Rattle.std.specs.Io.KnownBytes.{Appends};
+ghost use Rattle.frame_words.specs.Errors.{error_name};
 ghost use Rattle.fw_script.specs.Outputs.{AppendsSome};
 ghost use Rattle.fw_script.specs.Records.{answer_text};
-ghost use Rattle.fw_drive.specs.Errnos.{errno_name};
 ghost use Rattle.fw_drive.specs.Findings.{is_any_wrong};
 ghost use Rattle.fw_drive.specs.Notes.{Note, difference_text, errno_words, failed_errno, name_words, notes_text};
 ghost use Rattle.fw_drive.specs.Printed.{Gets};
 ghost use Rattle.fw_drive.specs.Runs.{IsUnprinted};
 
-use crate::errnos::name_of_errno;
 use crate::printing::{print_between, print_both};
 use crate::stop::Stop;
+use frame_words::name_of_error;
 use fw_script::{OutputRefused, write_record, write_text};
 use fw_world::{Answer, Record};
 use std::alloc::Allocator;
@@ -42,10 +42,10 @@ fn errno_of<A: Allocator>(answer: &Answer<A>) -> Option<u32>
 
 /// Prints the name of an error, if it has one here.
 fn print_name<W: Write>(out: &mut W, errno: u32) -> Result<(), OutputRefused>
-    ensures ok { OnOk result (Appends (W.contents out.old) (W.contents out.new) (name_words (errno_name errno))) }
-    ensures refused { OnErr result (AppendsSome (W.contents out.old) (W.contents out.new) (name_words (errno_name errno))) }
+    ensures ok { OnOk result (Appends (W.contents out.old) (W.contents out.new) (name_words (error_name errno))) }
+    ensures refused { OnErr result (AppendsSome (W.contents out.old) (W.contents out.new) (name_words (error_name errno))) }
 {
-    match name_of_errno(errno) {
+    match name_of_error(errno) {
         Some(name) => print_both(out, name.as_bytes(), b" "),
         None => Ok(()),
     }

@@ -9,7 +9,6 @@ mod blaming;
 mod carrying;
 mod differing;
 mod driver;
-mod errnos;
 mod fault;
 mod form;
 mod given;
@@ -33,7 +32,6 @@ mod trace;
 mod view;
 mod watch;
 
-pub use errnos::name_of_errno;
 pub use fk_drive::FreeFields;
 pub use form::Form;
 pub use input::InputLines;

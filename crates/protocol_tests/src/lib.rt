@@ -1,4 +1,4 @@
-//! The tests of `fuse_protocol` and `fuse_replies`, in a crate over them, so that their proofs are not repeated to run
+//! The tests of `fuse_protocol`, `fuse_replies` and the names of errors, in a crate over them, so that no proof is repeated to run
 //! them.
 #![tactic(auto)]
 
