@@ -484,6 +484,15 @@ def run_words():
                           (["/nowhere", "/nowhere"], 1), (["/nowhere"], 1), ([os.devnull, "/nowhere"], 4)]:
         run = subprocess.run([PROGRAM, "drive", *words], stdin=subprocess.DEVNULL, stdout=subprocess.PIPE, stderr=subprocess.PIPE, timeout=SECONDS)
         judge(f"drive {words}", (run.returncode, run.stdout, run.stderr != b""), (status, b"", True))
+    alone = "--orders goes with FILE, --number and --nth alone"
+    for words, line in [([*given, "x"], alone) for given in (["--orders", "x"], ["--orders", "--calls"], ["--orders", "--beside"],
+                            ["--orders", "--no-opendir"], ["--orders", "--trace"], ["--orders", "--json"], ["--orders", "--check"],
+                            ["--orders", "--capture", "y"], ["--orders", "--random"], ["--orders", "--any"], ["--orders", "--report-only"])] + [
+                        (["--number", "x"], "--number and --nth go with --orders"), (["--nth", "1", "x"], "--number and --nth go with --orders"),
+                        (["--any", "x"], "--any goes with --random"), (["--random", "--calls", "x"], "--random goes without --calls and --beside"),
+                        (["--random", "--beside", "x"], "--random goes without --calls and --beside")]:
+        run = subprocess.run([PROGRAM, "drive", *words], stdin=subprocess.DEVNULL, capture_output=True, text=True, timeout=SECONDS)
+        judge(f"drive {words}", (run.returncode, run.stdout, run.stderr), (2, "", f"error: {line}\n"))
     for words, line in [(["drive", "/nowhere"], "cannot read /nowhere: No such file or directory (os error 2)"),
                         (["drive", os.devnull, "/nowhere"], "socket failed: No such file or directory (os error 2)"),
                         (["drive", os.devnull, os.devnull], "socket failed: Connection refused (os error 111)"),

@@ -1,9 +1,10 @@
 -- The exit statuses of the program.
-use Rattle.std.specs.Prelude.{◌≡◌, ◌⊎◌, ℕ, List, [], ◌∷◌, Option, Some, None, Contains}
+use Rattle.std.specs.Prelude.{◌≡◌, ◌⊎◌, ℕ, true, false, List, [], ◌∷◌, Option, Some, None, Contains}
 use Rattle.clap.specs.Words.{App, IsAmong, Text, fault_of, subcommand_of}
 use Rattle.clap.specs.declared.error.kind.ErrorKind.{ErrorKind}
 use Rattle.clap.specs.declared.error.kind.ErrorKind.TheVariants.{DisplayVersion, OutOfMemory}
 use Rattle.fw_check.specs.declared.options.CheckOptions.{CheckOptions}
+use Rattle.fuseworld.specs.DriveWords.{go_together}
 use Rattle.fuseworld.specs.ServeStatuses.{drive_statuses, serve_statuses}
 use Rattle.fuseworld.specs.Tasks.{AsksFor, options_of}
 use Rattle.fuseworld.specs.Values.{IsOffer}
@@ -61,8 +62,8 @@ EndsWith (task.Socket file path) = Contains (0 ∷ 1 ∷ 3 ∷ 4 ∷ 5 ∷ [])
 EndsWith (task.Draw file around) = Contains (0 ∷ 1 ∷ 3 ∷ 5 ∷ [])
 EndsWith (task.OnFrame t) = Contains (frame_statuses t)
 EndsWith (task.Serve t) = Contains (serve_statuses t.capture t.is_checked)
-EndsWith (task.Drive t) = λ status. (IsOffer t.offer.now → Contains drive_statuses status)
-    × (¬ IsOffer t.offer.now → status ≡ 2)
+EndsWith (task.Drive t) = λ status. (IsOffer t.offer.now → go_together t ≡ true → Contains drive_statuses status)
+    × (¬ IsOffer t.offer.now → status ≡ 2) × (go_together t ≡ false → status ≡ 2)
 EndsWith (task.Side t) = Contains (0 ∷ 1 ∷ 3 ∷ 5 ∷ [])
 
 -- words that are refused with this kind of error end with this exit status

@@ -1,16 +1,19 @@
 //! The command `drive`: the kernel before a server that somebody else wrote.
 
-ghost use Rattle.std.specs.Prelude.{◌↔◌, ◌∷◌, [], Contains, IsTrue, ◌≡◌, IfErr, IfOk, codes, false, unwrap_or};
+ghost use Rattle.std.specs.Prelude.{◌↔◌, ◌∷◌, [], Contains, IsTrue, ◌≡◌, IfErr, IfOk, codes, false, is_none, true, unwrap_or};
 ghost use Rattle.clap.specs.Words.{app_of, first_of, found_of, rows_of, with_rule, new_rule};
 ghost use Rattle.clap.specs.declared.builder.command.Command.TheViews.{out-Command as fields_of};
 ghost use Rattle.fuseworld.specs.Arguments.{IsArgument, flag, needed, number, option, option_or_none};
 ghost use Rattle.fuseworld.specs.Commands.{IsCommand, drive_app, last_node};
+ghost use Rattle.fuseworld.specs.DriveWords as words;
+ghost use Rattle.fuseworld.specs.DriveWords.{go_together};
 ghost use Rattle.fuseworld.specs.ServeStatuses.{drive_statuses};
 ghost use Rattle.fuseworld.specs.Values.{IsOffer, is_set};
 ghost use Rattle.fuseworld.specs.Tasks.{AsksDrive, form_of};
 
 use crate::arguments::{file_argument, flag, needed, option, optional, time_argument};
 use crate::judged::status_beside;
+use crate::orders::{print_orders_of, with_orders};
 use crate::output::standard_output;
 use crate::reason::{cannot_open, cannot_write, no_socket};
 use crate::saying::SayingWriter;
@@ -27,7 +30,6 @@ use fw_drive::{
 use fw_expand::{ExpandedLines, expandable_script};
 use fw_json::JsonLines;
 use fw_judged::JudgedServer;
-use fw_orders::{Wanted, print_orders};
 use fw_output::{LimitedWriter, room_in_file};
 use fw_random::{Commented, RandomLines};
 use fw_script::no_memory;
@@ -46,7 +48,7 @@ const OPEN_FLAGS: u32 = 0x8002;
 /// One run of `drive`.
 #[derive(Clone, Copy)]
 pub struct DriveTask<'a> {
-    file: &'a str,
+    pub(crate) file: &'a str,
     /// The socket on which the server listens; without it the server is on standard input and output.
     socket: Option<&'a str>,
     form: Form,
@@ -73,9 +75,9 @@ pub struct DriveTask<'a> {
     /// Whether the orders of calls are printed, and nothing is driven.
     is_orders: bool,
     /// Whether it is printed how many orders there are.
-    is_numbered: bool,
+    pub(crate) is_numbered: bool,
     /// The order that is printed, from 1; 0 for all.
-    nth: u64,
+    pub(crate) nth: u64,
 }
 
 /// The option for further flags of INIT.
@@ -86,7 +88,7 @@ fn offer_argument<'a>(alloc: Global) -> Arg<'a>
 }
 
 /// An option that takes any number.
-fn number_argument<'a>(
+pub(crate) fn number_argument<'a>(
     alloc: Global,
     name: &'a str,
     value_name: &'a str,
@@ -146,28 +148,6 @@ fn with_draws<'a>(alloc: Global, command: Command<'a>) -> Result<Command<'a>, Al
         "How many events --random chooses",
     );
     command.arg(random)?.arg(any)?.arg(seed)?.arg(events)
-}
-
-/// The arguments of orders.
-fn with_orders<'a>(alloc: Global, command: Command<'a>) -> Result<Command<'a>, AllocError>
-    ensures { IfOk result (λ all. (fields_of command.entry).has_globals ≡ false
-        → IsCommand (with_rule (with_rule (with_rule (app_of command.entry) (flag (codes "orders")))
-        (flag (codes "number"))) (number (codes "nth") 0 last_node (codes "0"))) all) }
-{
-    let orders = flag(
-        alloc,
-        "orders",
-        "Print every order of the messages of the calls in FILE, each as a script",
-    );
-    let number = flag(alloc, "number", "With --orders: print how many there are");
-    let nth = number_argument(
-        alloc,
-        "nth",
-        "K",
-        "0",
-        "With --orders: print this one, from 1; 0 for all",
-    );
-    command.arg(orders)?.arg(number)?.arg(nth)
 }
 
 /// The arguments.
@@ -689,56 +669,50 @@ fn drive_task_of(rt: &HostRuntime, asked: DriveTask<'_>, task: Task<'_>) -> u8
     }
 }
 
-/// Which orders are printed.
-fn wanted(asked: DriveTask<'_>) -> Wanted {
-    match (asked.is_numbered, asked.nth) {
-        (true, _) => Wanted::Number,
-        (false, 0) => Wanted::All,
-        (false, nth) => Wanted::Nth(nth),
-    }
-}
-
-/// Prints the orders of a file of calls, and gives the exit status.
-fn print_orders_of(rt: &HostRuntime, asked: DriveTask<'_>) -> u8
-    ensures { Contains drive_statuses result }
+/// Which words of a command line do not go together, where some do not.
+fn misfit(asked: DriveTask<'_>) -> Option<&'static str>
+    ensures { is_none result ≡ go_together asked.entry }
 {
-    let alloc = rt.alloc();
-    let mut faults = rt.stderr();
-    let Ok(mut out) = BufWriter::new(alloc, standard_output(rt)) else {
-        return no_memory(&mut faults);
-    };
-    let name = asked.file;
-    if name == "-" {
-        return print_orders(
-            alloc,
-            wanted(asked),
-            name,
-            &mut rt.reader(),
-            &mut out,
-            &mut faults,
-        );
-    }
-    match File::open(rt, name) {
-        Ok(mut input) => print_orders(
-            alloc,
-            wanted(asked),
-            name,
-            &mut input,
-            &mut out,
-            &mut faults,
-        ),
-        Err(error) if error.kind() == ErrorKind::OutOfMemory => no_memory(&mut faults),
-        Err(error) => cannot_open(rt, name, &error),
+    if asked.is_orders && drives(asked) {
+        Some("--orders goes with FILE, --number and --nth alone")
+    } else if !asked.is_orders && (asked.is_numbered || asked.nth != 0) {
+        Some("--number and --nth go with --orders")
+    } else if asked.is_random && !matches!(asked.form, Form::Events) {
+        Some("--random goes without --calls and --beside")
+    } else if asked.is_any && !asked.is_random {
+        Some("--any goes with --random")
+    } else {
+        None
     }
 }
 
-/// Drives a server, and gives the exit status.
+/// Whether a word says how a server is driven.
+fn drives(asked: DriveTask<'_>) -> bool
+    ensures { result ≡ words.drives asked.entry }
+{
+    asked.socket.is_some()
+        || !matches!(asked.form, Form::Events)
+        || !asked.opens_directories
+        || asked.is_traced
+        || asked.is_json
+        || asked.is_checked
+        || asked.capture.is_some()
+        || asked.is_any
+        || asked.is_report_only
+}
+
+/// Drives a server, and gives the exit status; 2 where words do not go together.
 pub fn run_drive_task(rt: &HostRuntime, asked: DriveTask<'_>) -> u8
-    ensures statuses { IsOffer asked.entry.offer.now → Contains drive_statuses result }
+    ensures statuses { IsOffer asked.entry.offer.now → go_together asked.entry ≡ true → Contains drive_statuses result }
     ensures refused { ¬ IsOffer asked.entry.offer.now → result ≡ 2 }
+    ensures misfits { go_together asked.entry ≡ false → result ≡ 2 }
 {
     if !is_offer(asked.offer.as_bytes()) {
         let _ = eprintln!(rt; "error: --offer takes 1 to 8 lower-case hex digits");
+        return 2;
+    }
+    if let Some(why) = misfit(asked) {
+        let _ = eprintln!(rt; "error: {why}");
         return 2;
     }
     if asked.is_orders {

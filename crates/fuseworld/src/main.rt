@@ -10,6 +10,7 @@ mod draw;
 mod drive;
 mod frame_commands;
 mod judged;
+mod orders;
 mod output;
 mod reason;
 mod saying;

@@ -3,7 +3,7 @@ use Rattle.std.proofs.lemmas.Result.{IfOk-weaker}
 use Rattle.fuseworld.specs.Arguments.{IsArgument, flag, number}
 use Rattle.fuseworld.specs.Commands.{last_node}
 use Rattle.fuseworld.proofs.Adding.{adds_argument}
-use Rattle.fuseworld.proofs.drive.with_orders.Goals as goal
+use Rattle.fuseworld.proofs.orders.with_orders.Goals as goal
 
 pub returns : goal.returns
 returns c =
