@@ -170,7 +170,7 @@ received_known k old call wire (Some state) there = by (goes_with (asked state) 
         (answered_known k.nodes k.vfs old call (answer.failed 5))
 
 -- Everything is abandoned, and the root is known still.
-empty_known : (c : Vfs Opened) → c.root ≡ 1 → VfsKnown [] (abandoned c)
+pub empty_known : (c : Vfs Opened) → c.root ≡ 1 → VfsKnown [] (abandoned c)
 empty_known c root = record {
   root = subst (IsKnown []) (sym root) (λ e. absurd (cc (e)));
   names = record { directories = λ id name b at. absurd (cc); targets = λ id name b at. absurd (cc) };

@@ -354,7 +354,7 @@ module _ (k : Kernel) (old : ClosedFiles k.vfs k.closing) where
 
 -- ---- signals and replies
 
-signal_closes : (k : Kernel) → ClosedFiles k.vfs k.closing → (call : ℕ) (state : CallState Opened) (fatal : Bool)
+pub signal_closes : (k : Kernel) → ClosedFiles k.vfs k.closing → (call : ℕ) (state : CallState Opened) (fatal : Bool)
     → get k.vfs.calls call ≡ Some state → After (call_signalled k call state fatal).1
 signal_closes k old call state fatal there = by (request_of k call)
   where
@@ -399,7 +399,7 @@ received_closes k old call wire (Some state) there = by (goes_with (asked state)
         (answered_so k.vfs k.closing old call state there (answer.failed 5))
 
 -- Everything is abandoned.
-none_open : (c : Vfs Opened) → ClosedFiles (abandoned c) []
+pub none_open : (c : Vfs Opened) → ClosedFiles (abandoned c) []
 none_open c = record {
   calls_in_order = tt;
   closing_in_order = tt;
@@ -410,7 +410,7 @@ none_open c = record {
   used = λ h o at. absurd (cc);
 }
 
-written_closes : (k : Kernel) → ClosedFiles k.vfs k.closing → (unique : ℕ) (wire : WireReply)
+pub written_closes : (k : Kernel) → ClosedFiles k.vfs k.closing → (unique : ℕ) (wire : WireReply)
     → After (reply_written k unique wire).1
 written_closes k old unique wire = by (nat_eq (unique % 2) 1)
   where
@@ -441,7 +441,7 @@ written_closes k old unique wire = by (nat_eq (unique % 2) 1)
     by false = even (waiting k.queues unique)
 
 -- The same calls and open files.
-same_files : (c d : Vfs Opened) (closing : Map Opened) → d.calls ≡ c.calls → d.opens ≡ c.opens
+pub same_files : (c d : Vfs Opened) (closing : Map Opened) → d.calls ≡ c.calls → d.opens ≡ c.opens
     → d.next_call ≡ c.next_call → ClosedFiles c closing → ClosedFiles d closing
 same_files c d closing calls opens next old = record {
   calls_in_order = subst (λ (m : Map (CallState Opened)). T (is_sorted nat_cmp m)) (sym calls) old.calls_in_order;
