@@ -8,7 +8,7 @@ ghost use Rattle.fw_drive.specs.Runs.{IsUnprinted};
 
 use crate::alike::are_alike;
 use crate::asked::{Asked, is_made_otherwise, is_refused_as_above};
-use crate::differing::{Answered, print_differing};
+use crate::difference_words::{Answered, print_differing};
 use crate::printing::print_compared;
 use crate::stop::Stop;
 use fw_world::{Answer, Call, Event, Minor, Outcome, Pick, Refusal, Tables, Taken, WorldOf};

@@ -10,9 +10,9 @@ ghost use Rattle.fw_drive.specs.Printing.{HasPrinted, PrintsOn, Says};
 ghost use Rattle.fw_drive.specs.Runs.{IsUnprinted};
 
 use crate::beside::Beside;
-use crate::blaming::print_fault;
 use crate::driver::Driver;
 use crate::fault::{Fault, Unanswered};
+use crate::fault_words::print_fault;
 use crate::form::Form;
 use crate::place::Place;
 use crate::printing::{print_notification, print_outcome, print_raised};

@@ -8,8 +8,8 @@ ghost use Rattle.fw_drive.specs.Printed.{stop_line};
 ghost use Rattle.fw_drive.specs.Runs.{IsStopStatus, IsUnprinted, SaysStop, stop_of, stop_status};
 
 use crate::fault::Unanswered;
-use crate::naming::print_no_reply;
 use crate::printing::print_refusal;
+use crate::request_words::print_no_reply;
 use fk_drive::DriveEnd;
 use fuse_device::DeviceEnd;
 use fuse_spec::Refusal;

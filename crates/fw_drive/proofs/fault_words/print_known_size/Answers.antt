@@ -1,0 +1,17 @@
+use Rattle.std.proofs.Common.{List, ap, append_assoc, codes, decimal, ℕ, ◌++◌}
+use Rattle.fw_drive.specs.Faults.{right_words}
+use Rattle.fw_script.proofs.Writes.{OnErr-always, refused_then, some_first}
+use Rattle.fw_drive.proofs.Texts.{taken_then}
+use Rattle.fw_drive.proofs.fault_words.print_known_size.Goals as goal
+
+pub returns-in_err-print_between-clause-refused : goal.returns-in_err-print_between-clause-refused
+returns-in_err-print_between-clause-refused g c =
+    OnErr-always _ _ (some_first _ _ (codes ": " ++ (decimal c.args.size.len ++ codes " bytes")) (right_words c.args.size.right) _ (ap (λ (l : List ℕ). l ++ right_words c.args.size.right) (append_assoc (codes ": ") (decimal c.args.size.len) (codes " bytes"))) c.in_err-print_between.ensures.refused)
+
+pub returns-clause-refused : goal.returns-clause-refused
+returns-clause-refused g c =
+    refused_then c.print_right.result _ _ _ (codes ": " ++ (decimal c.args.size.len ++ codes " bytes")) (right_words c.args.size.right) _ (ap (λ (l : List ℕ). l ++ right_words c.args.size.right) (append_assoc (codes ": ") (decimal c.args.size.len) (codes " bytes"))) c.in_ok-print_between.ensures.ok c.print_right.ensures.refused
+
+pub returns-clause-ok : goal.returns-clause-ok
+returns-clause-ok g c =
+    taken_then c.print_right.result _ _ _ (codes ": " ++ (decimal c.args.size.len ++ codes " bytes")) (right_words c.args.size.right) _ (ap (λ (l : List ℕ). l ++ right_words c.args.size.right) (append_assoc (codes ": ") (decimal c.args.size.len) (codes " bytes"))) c.in_ok-print_between.ensures.ok c.print_right.ensures.ok

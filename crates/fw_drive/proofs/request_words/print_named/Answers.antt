@@ -1,0 +1,17 @@
+use Rattle.std.proofs.Common.{refl}
+use Rattle.fw_drive.specs.Faults.{request_words}
+use Rattle.fw_script.proofs.Writes.{OnErr-always, refused_then, some_first}
+use Rattle.fw_drive.proofs.Texts.{taken_then}
+use Rattle.fw_drive.proofs.request_words.print_named.Goals as goal
+
+pub returns-in_err-write_text-clause-refused : goal.returns-in_err-write_text-clause-refused
+returns-in_err-write_text-clause-refused g c =
+    OnErr-always _ _ (some_first _ _ (c.args.words.now) (request_words c.args.request) _ (refl) c.in_err-write_text.ensures.refused)
+
+pub returns-clause-refused : goal.returns-clause-refused
+returns-clause-refused g c =
+    refused_then c.print_request.result _ _ _ (c.args.words.now) (request_words c.args.request) _ (refl) c.in_ok-write_text.ensures.ok c.print_request.ensures.refused
+
+pub returns-clause-ok : goal.returns-clause-ok
+returns-clause-ok g c =
+    taken_then c.print_request.result _ _ _ (c.args.words.now) (request_words c.args.request) _ (refl) c.in_ok-write_text.ensures.ok c.print_request.ensures.ok
