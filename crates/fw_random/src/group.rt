@@ -7,7 +7,8 @@ use crate::alike::{
 use crate::beside::Beside;
 use crate::plan::Plan;
 use crate::text::{put, put_number, word_at, words_behind};
-use fw_drive::{NoLine, name_of_errno};
+use frame_words::name_of_error;
+use fw_drive::NoLine;
 use fw_script::read_number;
 use std::alloc::Allocator;
 use std::io::Write;
@@ -17,6 +18,8 @@ use std::io::Write;
 struct Called<A: Allocator> {
     number: u64,
     line: Vec<u8, A>,
+    /// The number of that line.
+    line_number: u64,
     /// The words of its answer, and none before it comes.
     answer: Vec<u8, A>,
     /// Whether its answer is right.
@@ -75,7 +78,7 @@ pub(crate) fn copied<A: Allocator>(alloc: A, text: &[u8]) -> Result<Vec<u8, A>, 
 fn put_answer<A: Allocator>(line: &mut Vec<u8, A>, words: &[u8]) -> Result<(), NoLine> {
     let name = match read_number(words) {
         Some(number) => match u32::try_from(number) {
-            Ok(errno) => name_of_errno(errno),
+            Ok(errno) => name_of_error(errno),
             Err(_) => None,
         },
         None => None,
@@ -99,6 +102,8 @@ fn print_difference<A: Allocator, W: Write>(
     put_number(&mut line, called.number)?;
     put(&mut line, b" (")?;
     put(&mut line, called.line.as_slice())?;
+    put(&mut line, b", line ")?;
+    put_number(&mut line, called.line_number)?;
     put(&mut line, b"): ")?;
     put_answer(&mut line, called.answer.as_slice())?;
     put(&mut line, b", here ")?;
@@ -122,11 +127,17 @@ impl<A: Allocator + Copy> Group<A> {
         }
     }
 
-    /// A call began by a line.
-    pub(crate) fn begin(&mut self, number: u64, line: &[u8]) -> Result<(), NoLine> {
+    /// A call began by a line, which has this number.
+    pub(crate) fn begin(
+        &mut self,
+        number: u64,
+        line: &[u8],
+        line_number: u64,
+    ) -> Result<(), NoLine> {
         let called = Called {
             number,
             line: copied(self.alloc, line)?,
+            line_number,
             answer: Vec::new(self.alloc),
             is_right: false,
         };

@@ -24,6 +24,8 @@ pub(crate) struct Known<A: Allocator> {
     pub(crate) group: Group<A>,
     /// The line that is run.
     pub(crate) line: Vec<u8, A>,
+    /// How many lines were run.
+    lines: u64,
     alloc: A,
     /// A listing that was sent by the line that is run.
     listing: u64,
@@ -60,6 +62,7 @@ impl<A: Allocator + Copy> Known<A> {
             nodes: Vec::new(alloc),
             group: Group::new(alloc),
             line: Vec::new(alloc),
+            lines: 0,
             alloc,
             listing: 0,
         }
@@ -67,6 +70,7 @@ impl<A: Allocator + Copy> Known<A> {
 
     /// A line is run.
     pub(crate) fn keep_line(&mut self, line: &[u8]) -> Result<(), NoLine> {
+        self.lines = self.lines.saturating_add(1);
         self.line.clear();
         put(&mut self.line, line)
     }
@@ -74,7 +78,7 @@ impl<A: Allocator + Copy> Known<A> {
     /// A call began.
     fn begun(&mut self, call: u64) -> Result<(), NoLine> {
         keep(&mut self.calls, call)?;
-        self.group.begin(call, self.line.as_slice())
+        self.group.begin(call, self.line.as_slice(), self.lines)
     }
 
     /// A file was opened by the words of a line.
