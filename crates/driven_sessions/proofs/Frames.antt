@@ -43,7 +43,7 @@ code_of_init : (nodeid : ℕ) (c : RequestContent) (body : RequestBody) → body
 code_of_init nodeid (wire.lookup name) body says = ap init_in says
 code_of_init nodeid c body says = ap init_in says
 
-past_node : (b : Bool) (node : ℕ) (fs : List Field) (bytes : List ℕ)
+pub past_node : (b : Bool) (node : ℕ) (fs : List Field) (bytes : List ℕ)
     → ReadsAs 16 (nodeid_field b node ∷ free32 0 ∷ free32 0 ∷ free32 0 ∷ free32 0 ∷ fs) bytes → ReadsAs 40 fs bytes
 past_node true node fs bytes reads = reads.1
 past_node false node fs bytes reads = reads
@@ -173,7 +173,7 @@ pub opendir_head : (bytes : List ℕ) (unique node : ℕ) → IsOpendir bytes un
 opendir_head bytes unique node is low =
     let head = head_says 48 27 unique (spellings (behind_opendir node)) (omega arith) (omega arith) low in
     let parts : bytes ≡ spellings (u32 48 ∷ u32 27 ∷ u64 unique ∷ []) ++ spellings (behind_opendir node) =
-    is ∙ spellings-append (u32 48 ∷ u32 27 ∷ u64 unique ∷ []) (behind_opendir node) in
+    is.1 ∙ spellings-append (u32 48 ∷ u32 27 ∷ u64 unique ∷ []) (behind_opendir node) in
     let code = ap (number_at 4 4) parts ∙ head.0 in (
       ap (λ (n : ℕ). nat_eq n 36) code,
       ap (number_at 8 8) parts ∙ head.1,
@@ -186,7 +186,7 @@ pub releasedir_head : (bytes : List ℕ) (unique : ℕ) (opened : Opened) → Is
 releasedir_head bytes unique opened is low =
     let head = head_says 64 29 unique (spellings (behind_releasedir opened)) (omega arith) (omega arith) low in
     let parts : bytes ≡ spellings (u32 64 ∷ u32 29 ∷ u64 unique ∷ []) ++ spellings (behind_releasedir opened) =
-    is ∙ spellings-append (u32 64 ∷ u32 29 ∷ u64 unique ∷ []) (behind_releasedir opened) in
+    is.2 ∙ spellings-append (u32 64 ∷ u32 29 ∷ u64 unique ∷ []) (behind_releasedir opened) in
     let code = ap (number_at 4 4) parts ∙ head.0 in (
       ap (λ (n : ℕ). nat_eq n 36) code,
       ap (number_at 8 8) parts ∙ head.1,
@@ -208,7 +208,7 @@ pub opendir_starts : (bytes : List ℕ) (unique node : ℕ) → IsOpendir bytes 
 opendir_starts bytes unique node is low =
     let head = head_says 48 27 unique (spellings (behind_opendir node)) (omega arith) (omega arith) low in
     let parts : bytes ≡ spellings (u32 48 ∷ u32 27 ∷ u64 unique ∷ []) ++ spellings (behind_opendir node) =
-    is ∙ spellings-append (u32 48 ∷ u32 27 ∷ u64 unique ∷ []) (behind_opendir node) in
+    is.1 ∙ spellings-append (u32 48 ∷ u32 27 ∷ u64 unique ∷ []) (behind_opendir node) in
     (ap (number_at 0 4) parts ∙ head.2, ap (number_at 4 4) parts ∙ head.0)
 
 pub releasedir_starts : (bytes : List ℕ) (unique : ℕ) (opened : Opened) → IsReleasedir bytes unique opened
@@ -216,7 +216,7 @@ pub releasedir_starts : (bytes : List ℕ) (unique : ℕ) (opened : Opened) → 
 releasedir_starts bytes unique opened is low =
     let head = head_says 64 29 unique (spellings (behind_releasedir opened)) (omega arith) (omega arith) low in
     let parts : bytes ≡ spellings (u32 64 ∷ u32 29 ∷ u64 unique ∷ []) ++ spellings (behind_releasedir opened) =
-    is ∙ spellings-append (u32 64 ∷ u32 29 ∷ u64 unique ∷ []) (behind_releasedir opened) in
+    is.2 ∙ spellings-append (u32 64 ∷ u32 29 ∷ u64 unique ∷ []) (behind_releasedir opened) in
     (ap (number_at 0 4) parts ∙ head.2, ap (number_at 4 4) parts ∙ head.0)
 
 -- Both are of no other opcode than 27 and 29.

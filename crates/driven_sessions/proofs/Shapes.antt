@@ -32,7 +32,7 @@ no_extensions agreed bytes carries = let none = carries.no_extensions in rw none
 
 opendir_shaped : (bytes : List ℕ) (unique node : ℕ) → unique < 2 ^ 63 → IsOpendir bytes unique node → IsShaped bytes
 opendir_shaped bytes unique node low is agreed carries =
-    let long : length bytes ≡ 48 = ap (λ (l : List ℕ). length l) is ∙ length-spellings (opendir_fields unique node) in
+    let long : length bytes ≡ 48 = ap (λ (l : List ℕ). length l) is.1 ∙ length-spellings (opendir_fields unique node) in
     let starts = opendir_starts bytes unique node is low in
     let none = no_extensions agreed bytes carries in (
       op.Opendir,
@@ -68,7 +68,7 @@ opendir_shaped bytes unique node low is agreed carries =
 releasedir_shaped : (bytes : List ℕ) (unique : ℕ) (opened : Opened) → unique < 2 ^ 63 → IsReleasedir bytes unique opened
     → IsShaped bytes
 releasedir_shaped bytes unique opened low is agreed carries =
-    let long : length bytes ≡ 64 = ap (λ (l : List ℕ). length l) is ∙ length-spellings (releasedir_fields unique opened) in
+    let long : length bytes ≡ 64 = ap (λ (l : List ℕ). length l) is.2 ∙ length-spellings (releasedir_fields unique opened) in
     let starts = releasedir_starts bytes unique opened is low in
     let none = no_extensions agreed bytes carries in (
       op.Releasedir,

@@ -1,5 +1,5 @@
 -- Requests that are not the kernel's: OPENDIR and RELEASEDIR, without which many servers cannot list a directory.
-use Rattle.std.specs.Prelude.{◌≡◌, ◌≢◌, ◌⊎◌, ℕ, ℤ, pos, negsuc, ◌^◌, List, [], ◌∷◌, ◌++◌}
+use Rattle.std.specs.Prelude.{◌≡◌, ◌≢◌, ◌<◌, ◌⊎◌, ℕ, ℤ, pos, negsuc, ◌^◌, List, [], ◌∷◌, ◌++◌}
 use Rattle.fk_wire.specs.declared.opcode.Opcode.TheVariants as op
 use Rattle.fk_wire.specs.Fields.{Field, u32, u64, spellings}
 use Rattle.fk_wire.specs.Replies.{IsErrorNumber, SpellsReply, ReplyMessage, empty_reply, open_reply}
@@ -29,12 +29,13 @@ abbrev pub releasedir_fields : (unique : ℕ) → Opened → List Field
 releasedir_fields unique opened = header 64 29 unique (u64 opened.nodeid)
     ++ u64 opened.fh ∷ u32 0x10000 ∷ u32 0 ∷ u64 0 ∷ []
 
--- The bytes are the one frame of it.
+-- The bytes are the one frame of it, whose node fits its field.
 abbrev pub IsOpendir : List ℕ → (unique node : ℕ) → Type 0
-IsOpendir bytes unique node = bytes ≡ spellings (opendir_fields unique node)
+IsOpendir bytes unique node = (node < 2 ^ 64) × (bytes ≡ spellings (opendir_fields unique node))
 
 abbrev pub IsReleasedir : List ℕ → (unique : ℕ) → Opened → Type 0
-IsReleasedir bytes unique opened = bytes ≡ spellings (releasedir_fields unique opened)
+IsReleasedir bytes unique opened = (opened.nodeid < 2 ^ 64) × (opened.fh < 2 ^ 64)
+    × (bytes ≡ spellings (releasedir_fields unique opened))
 
 -- A reply to OPENDIR gives this fh: its body is that of a reply to OPEN, struct fuse_open_out.
 abbrev pub GivesHandle : List ℕ → (unique fh : ℕ) → Type 0
