@@ -73,13 +73,35 @@ is_shown a = is_calm a
 abbrev pub AreShown : List Act → Type 0
 AreShown acts = list_all is_shown acts ≡ true
 
--- It passes each test that such acts pass.
+-- What a server writes: besides, it names, uses and releases nothing.
+abbrev pub is_written : Act → Bool
+is_written (act.Faulty fault.NodeNotCounted) = false
+is_written (act.Names node) = false
+is_written (act.Uses file) = false
+is_written (act.Releases file) = false
+is_written a = is_shown a
+
+abbrev pub AreWritten : List Act → Type 0
+AreWritten acts = list_all is_written acts ≡ true
+
+-- Acts pass each test that those pass which pass this one.
+pub pass_on : (one other : Act → Bool) → ((a : Act) → one a ≡ true → other a ≡ true) → (acts : List Act)
+    → list_all one acts ≡ true → list_all other acts ≡ true
+pass_on one other passes [] are = refl
+pass_on one other passes (a ∷ acts) are =
+    let both = and_parts (one a) (list_all one acts) are in
+    and_from (other a) (list_all other acts) (passes a both.0) (pass_on one other passes acts both.1)
+
 pub shown_pass : (test : Act → Bool) → ((a : Act) → is_shown a ≡ true → test a ≡ true) → (acts : List Act)
     → AreShown acts → list_all test acts ≡ true
-shown_pass test passes [] are = refl
-shown_pass test passes (a ∷ acts) are =
-    let both = and_parts (is_shown a) (list_all is_shown acts) are in
-    and_from (test a) (list_all test acts) (passes a both.0) (shown_pass test passes acts both.1)
+shown_pass test = pass_on is_shown test
+
+is_shown_where_written : (a : Act) → is_written a ≡ true → is_shown a ≡ true
+is_shown_where_written (act.Faulty fault.NodeNotCounted) is = cc
+is_shown_where_written (act.Names node) is = cc
+is_shown_where_written (act.Uses file) is = cc
+is_shown_where_written (act.Releases file) is = cc
+is_shown_where_written a is = is
 
 pub is_calm_where_shown : (a : Act) → is_shown a ≡ true → is_calm a ≡ true
 is_calm_where_shown (act.Faulty fault.MalformedRequest) is = cc
@@ -242,128 +264,131 @@ pub by_bool : (b : Bool) (Goal P Q : Type 0) → (b ≡ true → P → Goal) →
 by_bool true Goal P Q first second is = first refl is
 by_bool false Goal P Q first second is = second refl is
 
-kind_calm : (a : Asked) (e : Entry) → AreShown (kind_acts a e)
-kind_calm a e = either is_shown (is_kind (kind_of e.attributes)) _ _
-    (either is_shown (is_made a e) [] (act.Faulty fault.EntryOfAnotherKind ∷ []) refl refl) refl
+kind_calm : (a : Asked) (e : Entry) → AreWritten (kind_acts a e)
+kind_calm a e = either is_written (is_kind (kind_of e.attributes)) _ _
+    (either is_written (is_made a e) [] (act.Faulty fault.EntryOfAnotherKind ∷ []) refl refl) refl
 
-entry_calm : (certain : Bool) (o : Opcode) (a : Asked) (e : Entry) → AreShown (entry_acts certain o a e)
-entry_calm certain o a e = either is_shown (nat_eq e.nodeid 1) (root_acts a) _
-    (either is_shown a.is_dots [] (act.Faulty fault.EntryOfTheRoot ∷ []) refl refl)
-    (either is_shown (nat_eq e.nodeid 0) _ _
-    (either is_shown (may_be_missing o) [] (act.Faulty fault.EntryOfNoNode ∷ []) refl refl)
-    (each_of is_shown (kind_acts a e) _ (kind_calm a e) refl))
+entry_calm : (certain : Bool) (o : Opcode) (a : Asked) (e : Entry) → AreWritten (entry_acts certain o a e)
+entry_calm certain o a e = either is_written (nat_eq e.nodeid 1) (root_acts a) _
+    (either is_written a.is_dots [] (act.Faulty fault.EntryOfTheRoot ∷ []) refl refl)
+    (either is_written (nat_eq e.nodeid 0) _ _
+    (either is_written (may_be_missing o) [] (act.Faulty fault.EntryOfNoNode ∷ []) refl refl)
+    (each_of is_written (kind_acts a e) _ (kind_calm a e) refl))
 
-records_calm : (certain : Bool) (a : Asked) (rs : List EntryRecordContent) → AreShown (flat_map (record_acts certain a) rs)
+records_calm : (certain : Bool) (a : Asked) (rs : List EntryRecordContent) → AreWritten (flat_map (record_acts certain a) rs)
 records_calm certain a [] = refl
-records_calm certain a (r ∷ rs) = each_of is_shown (record_acts certain a r) _
-    (either is_shown (is_name r.said.name (codes ".") || is_name r.said.name (codes "..")) []
+records_calm certain a (r ∷ rs) = each_of is_written (record_acts certain a r) _
+    (either is_written (is_name r.said.name (codes ".") || is_name r.said.name (codes "..")) []
     (entry_acts certain op.Readdirplus a r.entry) refl (entry_calm certain op.Readdirplus a r.entry))
     (records_calm certain a rs)
 
-counting_calm : (o : Opcode) (said most : ℕ) → AreShown (counting o said most)
-counting_calm op.Write said most = either is_shown (nat_lt most said) (act.Faulty fault.MoreThanWasAsked ∷ []) [] refl refl
+counting_calm : (o : Opcode) (said most : ℕ) → AreWritten (counting o said most)
+counting_calm op.Write said most = either is_written (nat_lt most said) (act.Faulty fault.MoreThanWasAsked ∷ []) [] refl refl
 counting_calm op.CopyFileRange said most =
-    either is_shown (nat_lt most said) (act.Faulty fault.MoreThanWasAsked ∷ []) [] refl refl
+    either is_written (nat_lt most said) (act.Faulty fault.MoreThanWasAsked ∷ []) [] refl refl
 counting_calm op.CopyFileRange64 said most =
-    either is_shown (nat_lt most said) (act.Faulty fault.MoreThanWasAsked ∷ []) [] refl refl
+    either is_written (nat_lt most said) (act.Faulty fault.MoreThanWasAsked ∷ []) [] refl refl
 counting_calm o said most = refl
 
-none_calm : (o : Opcode) → AreShown (opening_none o)
+none_calm : (o : Opcode) → AreWritten (opening_none o)
 none_calm op.Open = refl
 none_calm op.Opendir = refl
 none_calm o = refl
 
-failed_calm : (o : Opcode) (node errno : ℕ) → AreShown (failed_acts o node errno)
-failed_calm o node errno = each_of is_shown (if nat_eq errno 38 then opening_none o else []) (missing_acts o node errno)
-    (either is_shown (nat_eq errno 38) (opening_none o) [] (none_calm o) refl)
-    (either is_shown (is_of_node o && is_missing errno) _ [] refl refl)
+failed_calm : (o : Opcode) (node errno : ℕ) → AreWritten (failed_acts o node errno)
+failed_calm o node errno = each_of is_written (if nat_eq errno 38 then opening_none o else []) (missing_acts o node errno)
+    (either is_written (nat_eq errno 38) (opening_none o) [] (none_calm o) refl)
+    (either is_written (is_of_node o && is_missing errno) _ [] refl refl)
 
-opening_calm : (o : Opcode) (node fh : ℕ) → AreShown (opening o node fh)
+opening_calm : (o : Opcode) (node fh : ℕ) → AreWritten (opening o node fh)
 opening_calm op.Open node fh = refl
 opening_calm op.Opendir node fh = refl
 opening_calm op.Create node fh = refl
 opening_calm op.Tmpfile node fh = refl
 opening_calm o node fh = refl
 
-listing_calm : (asked : ℕ) (offsets : List ℕ) → AreShown (listing_acts asked offsets)
+listing_calm : (asked : ℕ) (offsets : List ℕ) → AreWritten (listing_acts asked offsets)
 listing_calm asked offsets =
     let twice : List Act = act.Faulty fault.OffsetGivenTwice ∷ [] in
     let endless : List Act = act.Faulty fault.ListingWithoutEnd ∷ [] in
     let ends : Bool = is_offset asked (last_behind None offsets) in
-    each_of is_shown (if repeats_behind None offsets then twice else []) (if ends then endless else [])
-    (either is_shown (repeats_behind None offsets) twice [] refl refl) (either is_shown ends endless [] refl refl)
+    each_of is_written (if repeats_behind None offsets then twice else []) (if ends then endless else [])
+    (either is_written (repeats_behind None offsets) twice [] refl refl) (either is_written ends endless [] refl refl)
 
-answer_calm : (o : Opcode) (a : Asked) (content : AnswerContent) → AreShown (answer_acts o a content)
+answer_calm : (o : Opcode) (a : Asked) (content : AnswerContent) → AreWritten (answer_acts o a content)
 answer_calm o a (answer.failed errno) = failed_calm o a.nodeid errno
 answer_calm o a (answer.entry e) = entry_calm true o a e
 answer_calm o a (answer.attributes v) = refl
 answer_calm o a (answer.opened file) = opening_calm o a.nodeid file.handle
-answer_calm o a (answer.created e file) = each_of is_shown (entry_acts true o a e) _ (entry_calm true o a e)
-    (either is_shown (is_opened a e) (opening o e.nodeid file.handle) [] (opening_calm o e.nodeid file.handle) refl)
+answer_calm o a (answer.created e file) = each_of is_written (entry_acts true o a e) _ (entry_calm true o a e)
+    (either is_written (is_opened a e) (opening o e.nodeid file.handle) [] (opening_calm o e.nodeid file.handle) refl)
 answer_calm o a (answer.number n) = counting_calm o n a.writes
 answer_calm o a (answer.records rs) = listing_calm a.lists_from (map (λ r. r.off) rs)
-answer_calm o a (answer.entry_records rs) = each_of is_shown (flat_map (record_acts true a) rs) _
+answer_calm o a (answer.entry_records rs) = each_of is_written (flat_map (record_acts true a) rs) _
     (records_calm true a rs) (listing_calm a.lists_from (map (λ r. r.said.off) rs))
 answer_calm o a (answer.init i) = refl
 answer_calm o a other = refl
 
 module _ (k : Known) (bytes : List ℕ) (t : Taken) where
-  replied_calm : (t : Taken) (body : Fit) → AreShown (replied bytes t body)
-  replied_calm taken.Accepted body = each_of is_shown (eintr_acts bytes taken.Accepted)
+  replied_calm : (t : Taken) (body : Fit) → AreWritten (replied bytes t body)
+  replied_calm taken.Accepted body = each_of is_written (eintr_acts bytes taken.Accepted)
       (act.Takes (number_in bytes) taken.Accepted body ∷ act.Replies (number_in bytes) taken.Accepted ∷ [])
-      (either is_shown (error_in bytes == eintr) (act.Interrupted (number_in bytes) ∷ []) [] refl refl) refl
+      (either is_written (error_in bytes == eintr) (act.Interrupted (number_in bytes) ∷ []) [] refl refl) refl
   replied_calm taken.NoEntry body = refl
   replied_calm taken.Invalid body = refl
   replied_calm taken.Failed body = refl
 
-  init_calm : (o : Option InitRequest) (content : AnswerContent) → AreShown (init_acts o content)
-  init_calm (Some r) (answer.init i) = each_of is_shown (of_version i) (of_offered r i)
-      (either is_shown (i.major == 7) [] (act.Faulty fault.InitOfAnotherVersion ∷ []) refl refl)
-      (either is_shown (bit_and i.flags r.flags == i.flags) [] (act.Faulty fault.FlagsThatWereNotOffered ∷ []) refl refl)
+  init_calm : (o : Option InitRequest) (content : AnswerContent) → AreWritten (init_acts o content)
+  init_calm (Some r) (answer.init i) = each_of is_written (of_version i) (of_offered r i)
+      (either is_written (i.major == 7) [] (act.Faulty fault.InitOfAnotherVersion ∷ []) refl refl)
+      (either is_written (bit_and i.flags r.flags == i.flags) [] (act.Faulty fault.FlagsThatWereNotOffered ∷ []) refl refl)
   init_calm (Some r) content = refl
   init_calm None content = refl
 
-  said_calm : (o : Opcode) (a : Asked) (t : Taken) (content : AnswerContent) → AreShown (said_acts k o a t content)
-  said_calm o a taken.Accepted content = each_of is_shown (init_acts k.offered content) (answer_acts o a content)
+  said_calm : (o : Opcode) (a : Asked) (t : Taken) (content : AnswerContent) → AreWritten (said_acts k o a t content)
+  said_calm o a taken.Accepted content = each_of is_written (init_acts k.offered content) (answer_acts o a content)
       (init_calm k.offered content) (answer_calm o a content)
   said_calm o a taken.NoEntry content = refl
   said_calm o a taken.Invalid content = refl
   said_calm o a taken.Failed content = refl
 
-  listed_calm : (o : Opcode) (a : Asked) (t : Taken) → AreShown (listed_acts o a t bytes)
-  listed_calm op.Readdirplus a taken.Accepted = either is_shown (error_in bytes == 0)
+  listed_calm : (o : Opcode) (a : Asked) (t : Taken) → AreWritten (listed_acts o a t bytes)
+  listed_calm op.Readdirplus a taken.Accepted = either is_written (error_in bytes == 0)
       (flat_map (record_acts false a) (entry_records_from 0 (drop 16 bytes))) []
       (records_calm false a (entry_records_from 0 (drop 16 bytes))) refl
   listed_calm op.Readdirplus a t = refl
   listed_calm o a t = refl
 
   by_calm : (o : Option Opcode) (a : Asked) (acts : List Act) (later : Known) → IsReplyBy k bytes t o a acts later
-      → AreShown acts
-  by_calm None a acts later is = ap (list_all is_shown) is.0 ∙ replied_calm t fit.MayFit
+      → AreWritten acts
+  by_calm None a acts later is = ap (list_all is_written) is.0 ∙ replied_calm t fit.MayFit
   by_calm (Some o) a acts later (inl (m, is, says)) =
       let body : Fit = fit_in (row_at o).reply a.asked bytes in
-      ap (list_all is_shown) says.0 ∙ each_of is_shown (replied bytes t body) (said_acts k o a t m.answer)
+      ap (list_all is_written) says.0 ∙ each_of is_written (replied bytes t body) (said_acts k o a t m.answer)
       (replied_calm t body) (said_calm o a t m.answer)
   by_calm (Some o) a acts later (inr (none, is)) =
       let body : Fit = fit_of_another (fit_in (row_at o).reply a.asked bytes) in
-      ap (list_all is_shown) is.0 ∙ each_of is_shown (replied bytes t body) (listed_acts o a t bytes)
+      ap (list_all is_written) is.0 ∙ each_of is_written (replied bytes t body) (listed_acts o a t bytes)
       (replied_calm t body) (listed_calm o a t)
 
-  to_calm : (o : Option Asked) (acts : List Act) (later : Known) → IsReplyTo k bytes t o acts later → AreShown acts
-  to_calm None acts later is = ap (list_all is_shown) is.0 ∙ replied_calm t fit.MayFit
+  to_calm : (o : Option Asked) (acts : List Act) (later : Known) → IsReplyTo k bytes t o acts later → AreWritten acts
+  to_calm None acts later is = ap (list_all is_written) is.0 ∙ replied_calm t fit.MayFit
   to_calm (Some a) acts later is = by_calm a.opcode a acts later is
 
-  pub written_shown : (s : Session) (acts : List Act) (later : Known) → IsWritten k s bytes t acts later → AreShown acts
-  written_shown s acts later (inl (head, is)) = by_bool (number_in bytes == 0) (AreShown acts) _ _
+  pub written_server : (s : Session) (acts : List Act) (later : Known) → IsWritten k s bytes t acts later → AreWritten acts
+  written_server s acts later (inl (head, is)) = by_bool (number_in bytes == 0) (AreWritten acts) _ _
       (λ zero. notified) (λ some. by_bool (is_to_interrupt (number_in bytes) (waits s (number_in bytes)))
-      (AreShown acts) _ _ (λ interrupt does. ap (list_all is_shown) does.0)
+      (AreWritten acts) _ _ (λ interrupt does. ap (list_all is_written) does.0)
       (λ other. to_calm (waits s (number_in bytes)) acts later)) is
     where
-      notified : IsNotified k bytes t acts later → AreShown acts
-      notified (inl (m, is, does)) = ap (list_all is_shown) does.0
-          ∙ either is_shown (is_resend bytes t) (act.Resends ∷ []) [] refl refl
-      notified (inr (not, does)) = ap (list_all is_shown) does.0
-  written_shown s acts later (inr (bad, faulty, same)) = ap (list_all is_shown) faulty
+      notified : IsNotified k bytes t acts later → AreWritten acts
+      notified (inl (m, is, does)) = ap (list_all is_written) does.0
+          ∙ either is_written (is_resend bytes t) (act.Resends ∷ []) [] refl refl
+      notified (inr (not, does)) = ap (list_all is_written) does.0
+  written_server s acts later (inr (bad, faulty, same)) = ap (list_all is_written) faulty
+
+  pub written_shown : (s : Session) (acts : List Act) (later : Known) → IsWritten k s bytes t acts later → AreShown acts
+  written_shown s acts later is = pass_on is_written is_shown is_shown_where_written acts (written_server s acts later is)
 
   pub written_calm : (s : Session) (acts : List Act) (later : Known) → IsWritten k s bytes t acts later → AreCalm acts
   written_calm s acts later is = shown_calm acts (written_shown s acts later is)

@@ -92,7 +92,7 @@ module _ (id : ℕ) where
       omega (arith, on, few)
 
   -- What is sent, or not, with one transfer.
-  sends_grow : (k : Known) (s : Session) (frame : List ℕ) (n : ℕ)
+  pub sends_grow : (k : Known) (s : Session) (frame : List ℕ) (n : ℕ)
       → SaysForgets (λ (fs : List Forget). forgotten id fs ≡ n) frame → (log : List Transfer) → SendsFrame frame log
       → (ts : List Said) → AreSaid log ts → (later : Known) (all : Session) → Lead k s ts later all
       → most_count s id ≤ most_count all id + n
@@ -106,12 +106,12 @@ module _ (id : ℕ) where
       omega (arith, grows, same)
   sends_grow k s frame n says log went ts is later all leads = absurd search
 
-  none_grows : (k : Known) (s : Session) (ts : List Said) → AreSaid [] ts → (later : Known) (all : Session)
+  pub none_grows : (k : Known) (s : Session) (ts : List Said) → AreSaid [] ts → (later : Known) (all : Session)
       → Lead k s ts later all → most_count all id ≡ most_count s id
   none_grows k s [] is later all leads = ap (λ (x : Session). most_count x id) leads.1
   none_grows k s (t ∷ ts) is later all leads = absurd is
 
-  received_grows : (k : Known) (s : Session) (frame : List ℕ) (ts : List Said) → AreSaid (received frame ∷ []) ts
+  pub received_grows : (k : Known) (s : Session) (frame : List ℕ) (ts : List Said) → AreSaid (received frame ∷ []) ts
       → (later : Known) (all : Session) → Lead k s ts later all → most_count s id ≤ most_count all id
   received_grows k s frame (said.Written b t ∷ []) is later all (acts, known, are, leads) =
       let grows = written_grows k s b t acts known are in
@@ -119,7 +119,7 @@ module _ (id : ℕ) where
       omega (arith, grows, same)
   received_grows k s frame ts is later all leads = absurd search
 
-  stopped_grows : (k : Known) (s : Session) (end : DeviceEnd) (ts : List Said)
+  pub stopped_grows : (k : Known) (s : Session) (end : DeviceEnd) (ts : List Said)
       → AreSaid (stopped end ∷ []) ts → (later : Known) (all : Session) → Lead k s ts later all
       → most_count s id ≤ most_count all id
   stopped_grows k s end (said.Ended ∷ []) is later all (acts, known, are, leads) =
@@ -158,7 +158,7 @@ own_forgets id frame unique low own =
       many = λ e. absurd (false≢true (sym head.3 ∙ e));
     }
 
-request_forgets : (id : ℕ) (frame : List ℕ) (r : Request) → SaysRequest frame r
+pub request_forgets : (id : ℕ) (frame : List ℕ) (r : Request) → SaysRequest frame r
     → SaysForgets (λ (fs : List Forget). forgotten id fs ≡ forgotten id (forgets_of r.body)) frame
 request_forgets id frame r says =
     frame_forgets (λ (fs : List Forget). forgotten id fs ≡ forgotten id (forgets_of r.body)) frame r says refl

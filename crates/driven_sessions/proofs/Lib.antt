@@ -47,4 +47,7 @@ mod Heard
 mod Counting
 mod Counted
 mod LargeForgets
+mod KnownNodes
+mod Naming
+mod Uncounted
 pub mod Rules

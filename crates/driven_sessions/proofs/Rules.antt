@@ -14,6 +14,7 @@ use Rattle.driven_sessions.proofs.Never.{used_numbers_never}
 use Rattle.driven_sessions.proofs.Odd.{odd_numbers_never}
 use Rattle.driven_sessions.proofs.Several.{one_thread_never}
 use Rattle.driven_sessions.proofs.Single.{interrupt_numbers_never}
+use Rattle.driven_sessions.proofs.Uncounted.{uncounted_never}
 
 pub keeps_rules : {D : Type 0} (logs : D → D → List Transfer → Type 0) (before after : D) (asks : Bool)
     → (new : Driven) × DrivesOver logs before after (first_driven asks) new → KeepsRules logs before after asks
@@ -33,4 +34,5 @@ keeps_rules logs before after asks (new, (log, over, run)) = record {
   shapes = shapes_never asks log new run;
   early_requests = early_requests_never asks log new run;
   large_forgets = large_forgets_never asks log new run;
+  uncounted_nodes = uncounted_never asks log new run;
 }

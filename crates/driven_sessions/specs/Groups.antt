@@ -61,3 +61,8 @@ is_of_early_requests f = false
 abbrev pub is_of_large_forgets : Fault → Bool
 is_of_large_forgets fault.ForgetOfMoreThanIsCounted = true
 is_of_large_forgets f = false
+
+-- A request names a node that is not counted.
+abbrev pub is_of_uncounted_nodes : Fault → Bool
+is_of_uncounted_nodes fault.NodeNotCounted = true
+is_of_uncounted_nodes f = false

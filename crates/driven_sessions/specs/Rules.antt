@@ -1,9 +1,9 @@
 -- The rules that a kernel keeps as it is driven over a device.
-use Rattle.std.specs.Prelude.{Bool, List}
+use Rattle.std.specs.Prelude.{◌≡◌, Bool, false, List}
 use Rattle.fuse_device.specs.Transfers.{Transfer}
 use Rattle.fk_drive.specs.Driving.{Driven, Drives, first_driven}
 use Rattle.driven_sessions.specs.Driven.{IsFreeOf, IsFreeWhereCarried, IsFreeWhereTaken, IsFreeWhereTakenAndCarried, IsOneMount}
-use Rattle.driven_sessions.specs.Groups.{is_of_early_requests, is_of_empty_forgets, is_of_interrupt_numbers, is_of_large_forgets, is_of_large_writes, is_of_late_inits, is_of_odd_numbers, is_of_one_thread, is_of_resends, is_of_shapes, is_of_used_numbers}
+use Rattle.driven_sessions.specs.Groups.{is_of_early_requests, is_of_empty_forgets, is_of_interrupt_numbers, is_of_large_forgets, is_of_large_writes, is_of_late_inits, is_of_odd_numbers, is_of_one_thread, is_of_resends, is_of_shapes, is_of_uncounted_nodes, is_of_used_numbers}
 
 -- From the one state of a device to the other a run drove a kernel over it, and no session of what went over the device
 -- shows a fault of these groups.
@@ -27,3 +27,5 @@ pub record KeepsRules {D : Type 0} (logs : D → D → List Transfer → Type 0)
   pub early_requests : IsFreeWhereTaken is_of_early_requests run
   -- where that is so, each agreement carries the codec's frames, and the kernel mounts once
   pub large_forgets : IsOneMount run → IsFreeWhereTakenAndCarried is_of_large_forgets run
+  -- and where besides it opens no directory before it is listed
+  pub uncounted_nodes : asks ≡ false → IsOneMount run → IsFreeWhereTakenAndCarried is_of_uncounted_nodes run
