@@ -150,7 +150,7 @@ pub record Counts (id count : ℕ) (t : Tally) (all now : List Outcome) (d : Dri
   pub balance : t.gathered + held_back id d.turn + owed ≤ most_count s id + t.forgotten
   pub failing : IsFailing d.turn
 
-own_forgets : (id : ℕ) (frame : List ℕ) (unique : ℕ) → unique < 2 ^ 63 → IsOwn frame unique
+pub own_forgets : (id : ℕ) (frame : List ℕ) (unique : ℕ) → unique < 2 ^ 63 → IsOwn frame unique
     → SaysForgets (λ (fs : List Forget). forgotten id fs ≡ 0) frame
 own_forgets id frame unique low own =
     let head = own_head frame unique low own in record {

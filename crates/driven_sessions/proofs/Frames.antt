@@ -194,6 +194,31 @@ releasedir_head bytes unique opened is low =
       ap (λ (n : ℕ). nat_eq n 42) code,
     )
 
+-- A node that fits its field stands behind the number.
+node_says : (len code unique node : ℕ) (rest : List ℕ) → len < 256 ^ 4 → code < 256 ^ 4 → unique < 2 ^ 63 → node < 2 ^ 64
+    → number_at 16 8 (spellings (u32 len ∷ u32 code ∷ u64 unique ∷ u64 node ∷ []) ++ rest) ≡ node
+node_says len code unique node rest short known low fits =
+    let fields : List Field = u32 len ∷ u32 code ∷ u64 unique ∷ u64 node ∷ raw rest ∷ [] in
+    let reads : ReadsAs 0 fields (spellings fields) =
+    reads_back fields [] (short, (known, (omega (arith, low), (omega (arith, fits), tt)))) tt in
+    let same : spellings fields ≡ spellings (u32 len ∷ u32 code ∷ u64 unique ∷ u64 node ∷ []) ++ rest =
+    spellings-append (u32 len ∷ u32 code ∷ u64 unique ∷ u64 node ∷ []) (raw rest ∷ [])
+    ∙ ap (λ (l : List ℕ). spellings (u32 len ∷ u32 code ∷ u64 unique ∷ u64 node ∷ []) ++ l) (append-nil rest) in
+    ap (number_at 16 8) (sym same) ∙ reads.1.1.1.0
+
+pub opendir_node : (bytes : List ℕ) (unique node : ℕ) → IsOpendir bytes unique node → unique < 2 ^ 63 → number_at 16 8 bytes ≡ node
+opendir_node bytes unique node is low =
+    let rest : List Field = free32 0 ∷ free32 0 ∷ free32 0 ∷ free32 0 ∷ u32 0x10000 ∷ u32 0 ∷ [] in
+    ap (number_at 16 8) (is.1 ∙ spellings-append (u32 48 ∷ u32 27 ∷ u64 unique ∷ u64 node ∷ []) rest)
+    ∙ node_says 48 27 unique node (spellings rest) (omega arith) (omega arith) low is.0
+
+pub releasedir_node : (bytes : List ℕ) (unique : ℕ) (opened : Opened) → IsReleasedir bytes unique opened → unique < 2 ^ 63
+    → number_at 16 8 bytes ≡ opened.nodeid
+releasedir_node bytes unique opened is low =
+    let rest : List Field = free32 0 ∷ free32 0 ∷ free32 0 ∷ free32 0 ∷ u64 opened.fh ∷ u32 0x10000 ∷ u32 0 ∷ u64 0 ∷ [] in
+    ap (number_at 16 8) (is.2 ∙ spellings-append (u32 64 ∷ u32 29 ∷ u64 unique ∷ u64 opened.nodeid ∷ []) rest)
+    ∙ node_says 64 29 unique opened.nodeid (spellings rest) (omega arith) (omega arith) low is.0
+
 -- OPENDIR's frame, or RELEASEDIR's.
 abbrev pub IsOwn : List ℕ → ℕ → Type 0
 IsOwn bytes unique = ((node : ℕ) × IsOpendir bytes unique node) ⊎ ((opened : Opened) × IsReleasedir bytes unique opened)

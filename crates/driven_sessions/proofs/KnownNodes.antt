@@ -1,33 +1,26 @@
 -- The kernel of a run knows each node that its calls, its open files and its RELEASEs name, whatever its server does.
-use Rattle.std.proofs.Common.{T, drop, ◌+◌, ◌≡◌, ◌⊎◌, inl, inr, ℕ, ◌≤◌, ◌<◌, Bool, true, false, true≢false, ◌||◌, cond, not, List, [], ◌∷◌, Option, Some, None, Result, Ok, Err, nat_eq, nat_lt, get_or, slice_get, refl, ap, sym, subst, ◌∙◌, arith, All}
+use Rattle.std.proofs.Common.{T, drop, ◌+◌, ◌≡◌, ℕ, ◌≤◌, ◌<◌, Bool, true, false, true≢false, ◌||◌, cond, not, List, [], Option, Some, None, nat_eq, nat_lt, get_or, slice_get, refl, ap, sym, subst, ◌∙◌, arith, All}
 use Rattle.std.specs.List.{list_any}
 use Rattle.std.specs.Ordering.{nat_cmp}
-use Rattle.std.specs.FinMap.{is_sorted}
 use Rattle.std.specs.FinMap.Entries.{is_sorted-where_key}
 use Rattle.std.proofs.lemmas.Bool.Decides.{nat_tests}
 use Rattle.std.proofs.lemmas.List.Elements.{All-nil, All-cons}
 use Rattle.fuse_spec.specs.declared.Counted.{Counted}
-use Rattle.fuse_spec.specs.declared.Dentry.{Dentry}
 use Rattle.fuse_spec.specs.declared.IntrEffect.{IntrEffect}
 use Rattle.fuse_spec.specs.declared.Opened.{Opened}
 use Rattle.fuse_spec.specs.declared.Purpose.{Purpose}
 use Rattle.fuse_spec.specs.declared.Purpose.TheVariants as purpose
 use Rattle.fuse_spec.specs.declared.QueuedRequest.{QueuedRequest}
-use Rattle.fuse_spec.specs.declared.Refusal.{Refusal}
 use Rattle.fuse_spec.specs.declared.Refusal.TheVariants.{Busy, NotReady}
 use Rattle.fuse_spec.specs.declared.WriteResult.{WriteResult}
 use Rattle.fuse_spec.specs.Calls.Calls.{for_minor}
-use Rattle.fuse_spec.specs.Calls.Vfs.{CallState, Vfs, abandoned, later, using}
-use Rattle.fuse_spec.specs.Claim.Counts.{opens_of}
-use Rattle.fuse_spec.specs.Files.Operations.{Operation}
+use Rattle.fuse_spec.specs.Calls.Vfs.{Vfs, abandoned, later}
 use Rattle.fuse_spec.specs.Values.Maps.{Map, get, remove, remove_name, values}
-use Rattle.fuse_spec.specs.Kernel.Kernel.{Kernel, call_begun, call_signalled, evicted, is_bound, is_live, is_pinned, is_released_by, is_using, kernel_aborted, kernel_mounted}
-use Rattle.fuse_spec.specs.Kernel.Messages.{WireReply}
+use Rattle.fuse_spec.specs.Kernel.Kernel.{Kernel, evicted, is_bound, is_live, is_pinned, is_released_by, kernel_aborted, kernel_mounted}
 use Rattle.fuse_spec.specs.Kernel.QueueCalls.{can_read_forgets}
 use Rattle.fuse_spec.specs.Kernel.Queues.{pending}
 use Rattle.fuse_spec.specs.Kernel.Refusals.{accepted, found, refusal_in, unless}
-use Rattle.fuse_spec.specs.Kernel.Replies.{reply_written}
-use Rattle.fuse_theorem.specs.ClosedFiles.{ClosedFiles, UsesFile, WasAnswered}
+use Rattle.fuse_theorem.specs.ClosedFiles.{ClosedFiles, WasAnswered}
 use Rattle.fuse_theorem.specs.EachEvent.{IsRooted}
 use Rattle.fuse_theorem.specs.KnownNodes.{IsKnown, NodesKnown, VfsKnown}
 use Rattle.fuse_theorem.specs.ReleasesKnown.{ReleaseKnown}

@@ -49,5 +49,8 @@ mod Counted
 mod LargeForgets
 mod KnownNodes
 mod Naming
+mod PickedNodes
+mod Listing
+mod Directories
 mod Uncounted
 pub mod Rules

@@ -1,15 +1,17 @@
 -- A request's frame names nodes that are there, where its header and its struct name such.
-use Rattle.std.proofs.Common.{◌≡◌, ◌≢◌, ◌⊎◌, inl, inr, ℕ, ◌+◌, ◌≤◌, ◌^◌, ◌&&◌, ◌||◌, Bool, true, false, not, List, [], ◌∷◌, ◌++◌, codes, Option, Some, None, nat_eq, nat_le, refl, ap, sym, subst, ◌∙◌, arith, if◌then◌else◌, All}
+use Rattle.std.proofs.Common.{◌≡◌, ◌≢◌, ◌⊎◌, inl, inr, ℕ, ◌+◌, ◌≤◌, ◌<◌, ◌^◌, ◌&&◌, ◌||◌, Bool, true, false, not, List, [], ◌∷◌, ◌++◌, codes, Option, Some, None, nat_eq, nat_le, refl, ap, sym, subst, ◌∙◌, arith, if◌then◌else◌, All}
 use Rattle.std.specs.List.{list_all}
 use Rattle.std.proofs.lemmas.Bool.{and_parts, false≢true}
 use Rattle.std.proofs.lemmas.List.Elements.{All-head, All-tail}
-use Rattle.fk_fields.specs.Fields.{Field, ReadsAs, free32, number_at}
+use Rattle.fk_fields.specs.Fields.{ReadsAs, free32, number_at}
 use Rattle.fk_wire.specs.Opcodes.{code_of as codec_code, has_node}
 use Rattle.fk_wire.specs.Requests.{RequestContent, nodeid_field, opcode_of, request_body}
 use Rattle.fk_wire.specs.Requests as wire
+use Rattle.fuse_spec.specs.declared.Opened.{Opened}
 use Rattle.fuse_spec.specs.Kernel.Messages.{Request, RequestBody}
 use Rattle.fuse_spec.specs.Server.Server.{nodes_of_body}
 use Rattle.fuse_frames.specs.RequestTies.{SaysRequest, body_in}
+use Rattle.fk_drive_frames.specs.OwnRequests.{IsOpendir, IsReleasedir}
 use Rattle.fuse_protocol.specs.declared.opcode.Opcode.{Opcode}
 use Rattle.fuse_protocol.specs.declared.opcode.Opcode.TheVariants as op
 use Rattle.fuse_protocol.specs.declared.request.OpenHandle.{OpenHandle}
@@ -25,15 +27,15 @@ use Rattle.fuse_sessions.specs.declared.fault.Fault.{Fault}
 use Rattle.fuse_sessions.specs.declared.fault.Fault.TheVariants as fault
 use Rattle.fuse_sessions.specs.declared.known.Known.{Known}
 use Rattle.fuse_sessions.specs.Counts.{most_count}
-use Rattle.fuse_sessions.specs.Faults.{Breaks, BreaksBeginning}
+use Rattle.fuse_sessions.specs.Faults.{Breaks}
 use Rattle.fuse_sessions.specs.Frames.{AreRequestActs, IsRequestOf}
-use Rattle.fuse_sessions.specs.RequestActs.{asked_of, asking, doing, forgets_in, looks_up, naming, node_asked, node_named, or_none, releasing, request_acts, resent, using, writing}
+use Rattle.fuse_sessions.specs.RequestActs.{asked_of, asking, forgets_in, looks_up, naming, node_asked, node_named, or_none, releasing, request_acts, resent, using, writing}
 use Rattle.fuse_sessions.specs.Sessions.{Session}
 use Rattle.fuse_sessions.specs.UnreadRequests.{asking_unread, has_header, malformed, may_be_known, opcode_in, takes_no_reply, unique_in, unjudged}
 use Rattle.driven_sessions.specs.Groups.{is_of_uncounted_nodes}
 use Rattle.driven_sessions.proofs.Calm.{each_of, either, is_written, pass_on, takes_none}
 use Rattle.driven_sessions.proofs.Doing.{behind}
-use Rattle.driven_sessions.proofs.Frames.{past_node}
+use Rattle.driven_sessions.proofs.Frames.{opendir_node, opendir_starts, past_node, releasedir_node, releasedir_starts}
 use Rattle.driven_sessions.proofs.Leading.{AreFree, free_append}
 use Rattle.driven_sessions.proofs.Takes.{count_on, takes}
 
@@ -314,3 +316,27 @@ module _ (IsSuch : ℕ → Type 0) (frame : List ℕ) (r : Request) (says : Says
     no_copy = ap (λ (n : ℕ). nat_eq n 47) code ∙ (none_of content).1;
     no_long_copy = ap (λ (n : ℕ). nat_eq n 53) code ∙ (none_of content).2;
   }
+
+-- ---- the frames of OPENDIR and RELEASEDIR
+
+coded_nodes : (IsSuch : ℕ → Type 0) (frame : List ℕ) (code node : ℕ) → opcode_in frame ≡ code → nat_eq code 12 ≡ false
+    → nat_eq code 13 ≡ false → nat_eq code 45 ≡ false → nat_eq code 47 ≡ false → nat_eq code 53 ≡ false
+    → number_at 16 8 frame ≡ node → IsSuch node → SaysNodes IsSuch frame
+coded_nodes IsSuch frame _ node is renames links rename2 copy long_copy at such = record {
+  own = λ about other. subst IsSuch (sym at) such;
+  renamed = λ e. absurd (false≢true (sym (ap (λ (n : ℕ). nat_eq n 12) is ∙ renames) ∙ e));
+  linked = λ e. absurd (false≢true (sym (ap (λ (n : ℕ). nat_eq n 13) is ∙ links) ∙ e));
+  no_rename2 = ap (λ (n : ℕ). nat_eq n 45) is ∙ rename2;
+  no_copy = ap (λ (n : ℕ). nat_eq n 47) is ∙ copy;
+  no_long_copy = ap (λ (n : ℕ). nat_eq n 53) is ∙ long_copy;
+}
+
+pub opendir_nodes : (IsSuch : ℕ → Type 0) (frame : List ℕ) (unique node : ℕ) → IsOpendir frame unique node → unique < 2 ^ 63
+    → IsSuch node → SaysNodes IsSuch frame
+opendir_nodes IsSuch frame unique node is low such = coded_nodes IsSuch frame 27 node (opendir_starts frame unique node is low).1
+    refl refl refl refl refl (opendir_node frame unique node is low) such
+
+pub releasedir_nodes : (IsSuch : ℕ → Type 0) (frame : List ℕ) (unique : ℕ) (opened : Opened) → IsReleasedir frame unique opened
+    → unique < 2 ^ 63 → IsSuch opened.nodeid → SaysNodes IsSuch frame
+releasedir_nodes IsSuch frame unique opened is low such = coded_nodes IsSuch frame 29 opened.nodeid
+    (releasedir_starts frame unique opened is low).1 refl refl refl refl refl (releasedir_node frame unique opened is low) such

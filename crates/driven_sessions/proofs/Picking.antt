@@ -81,7 +81,7 @@ picked_above q (Pending place) a = by (slice_get (pending q) place)
 -- ---- what is pending
 
 -- It is the one request under its number.
-found_pending : (es : List Entry) (place : ℕ) (e : Entry) → key_count e.0 es ≤ 1
+pub found_pending : (es : List Entry) (place : ℕ) (e : Entry) → key_count e.0 es ≤ 1
     → slice_get (filter (λ (x : Entry). is_unread x.1.mark) es) place ≡ Some e → lookup (nat_eq e.0) es ≡ Some e.1
 found_pending [] place e once at = absurd (cc at)
 found_pending (x ∷ es) place e once at = by (is_unread x.1.mark) (nat_eq e.0 x.0) refl place at (λ n. found_pending es n e)

@@ -54,21 +54,26 @@ use Rattle.driven_sessions.proofs.Numbers.{Each, Entry, IsRead, Passed, each_at,
 use Rattle.driven_sessions.proofs.Steps.{alone_dead, alone_keeps, taken_dead, taken_keeps}
 use Rattle.driven_sessions.proofs.InitNumbers.{picked_passed}
 
--- What was read is there still, or gone; what was gone stays so; and calls are numbered.
-record Moves (k l : Kernel) : Type 0 where
-  still : (u : ℕ) (r : QueuedRequest Purpose) → Each (IsRead u) k.queues.requests → request_under k.queues u ≡ Some r
-      → is_unread r.mark ≡ false → StillThere k l u r ⊎ (request_under l.queues u ≡ None)
-  gone : (u : ℕ) → u < k.queues.next → request_under k.queues u ≡ None → request_under l.queues u ≡ None
-  numbered : CallsNumbered l
+-- What was read is there still, or it had this number and is gone; what was gone stays so; and calls are numbered.
+pub record Moves (v : ℕ) (k l : Kernel) : Type 0 where
+  pub still : (u : ℕ) (r : QueuedRequest Purpose) → Each (IsRead u) k.queues.requests → request_under k.queues u ≡ Some r
+      → is_unread r.mark ≡ false → StillThere k l u r ⊎ ((u ≡ v) × (request_under l.queues u ≡ None))
+  pub gone : (u : ℕ) → u < k.queues.next → request_under k.queues u ≡ None → request_under l.queues u ≡ None
+  pub numbered : CallsNumbered l
 
-moves_only : (o : Opcode) (u : ℕ) (k l : Kernel) → u < k.queues.next → Each (IsRead u) k.queues.requests → Moves k l
+or_gone : (k l : Kernel) (u v : ℕ) (r : QueuedRequest Purpose) → StillThere k l u r ⊎ ((u ≡ v) × (request_under l.queues u ≡ None))
+    → StillThere k l u r ⊎ (request_under l.queues u ≡ None)
+or_gone k l u v r (inl still) = inl still
+or_gone k l u v r (inr gone) = inr gone.1
+
+moves_only : (o : Opcode) (u v : ℕ) (k l : Kernel) → u < k.queues.next → Each (IsRead u) k.queues.requests → Moves v k l
     → AwaitsOnly o u k → AwaitsOnly o u l
-moves_only o u k l low read moves only =
-    goes_only o u k l read (λ r under was. moves.still u r read under was) (moves.gone u low) only
+moves_only o u v k l low read moves only =
+    goes_only o u k l read (λ r under was. or_gone k l u v r (moves.still u r read under was)) (moves.gone u low) only
 
-same_moves : (k l : Kernel) → l.queues.requests ≡ k.queues.requests → l.vfs.calls ≡ k.vfs.calls
-    → k.queues.next ≤ l.queues.next → CallsNumbered l → Moves k l
-same_moves k l requests calls rises n = record {
+same_moves : (v : ℕ) (k l : Kernel) → l.queues.requests ≡ k.queues.requests → l.vfs.calls ≡ k.vfs.calls
+    → k.queues.next ≤ l.queues.next → CallsNumbered l → Moves v k l
+same_moves v k l requests calls rises n = record {
   still = λ u r read under was. inl ((unmoved k l requests calls rises).still u r under was);
   gone = λ u low none. ap (lookup (nat_eq u)) requests ∙ none;
   numbered = n;
@@ -128,10 +133,10 @@ module _ (k : Kernel) (one : OneEach k.queues) (n : CallsNumbered k) (unique : �
   -- The request under the number ends, and the others go on.
   ends_moves : (l : Kernel) → Follows ended l → request_under l.queues unique ≡ None
       → ((u : ℕ) → u < k.queues.next → request_under k.queues u ≡ None → request_under l.queues u ≡ None)
-      → CallsNumbered l → Moves k l
+      → CallsNumbered l → Moves unique k l
   ends_moves l follows absent gone numbered = record {
     still = λ u r read under was. elim (cases_eq u unique) [
-      | inl e ↦ inr (ap (request_under l.queues) e ∙ absent)
+      | inl e ↦ inr (e, ap (request_under l.queues) e ∙ absent)
       | inr ne ↦
           let x = follows.still u r (lookup-remove_entry_other u unique k.queues.requests (other_is u unique ne) ∙ under) was in
           inl (record {
@@ -149,21 +154,21 @@ module _ (k : Kernel) (one : OneEach k.queues) (n : CallsNumbered k) (unique : �
 
   ended_moves : (kept : Purpose) → Waits k.queues unique kept → is_live (ended_by ended kept wire).1.phase ≡ true
       → ((u : ℕ) → u < k.queues.next → request_under k.queues u ≡ None
-      → request_under (ended_by ended kept wire).1.queues u ≡ None) → Moves k (ended_by ended kept wire).1
+      → request_under (ended_by ended kept wire).1.queues u ≡ None) → Moves unique k (ended_by ended kept wire).1
   ended_moves kept waits live gone = by kept waits live gone
       (ended_gone unique k unique wire kept (low waits.request waits.under, one_removed unique k.queues one)).none
     where
       by : (kept : Purpose) → Waits k.queues unique kept → is_live (ended_by ended kept wire).1.phase ≡ true
           → ((u : ℕ) → u < k.queues.next → request_under k.queues u ≡ None
           → request_under (ended_by ended kept wire).1.queues u ≡ None)
-          → request_under (ended_by ended kept wire).1.queues unique ≡ None → Moves k (ended_by ended kept wire).1
+          → request_under (ended_by ended kept wire).1.queues unique ≡ None → Moves unique k (ended_by ended kept wire).1
       by purpose.Init waits live gone none = agreed (is_agreement wire) live gone none
         where
           agreed : (b : Bool) → is_live (cond b (made_ready ended wire) (kernel_aborted ended)).phase ≡ true
               → ((u : ℕ) → u < k.queues.next → request_under k.queues u ≡ None
               → request_under (cond b (made_ready ended wire) (kernel_aborted ended)).queues u ≡ None)
               → request_under (cond b (made_ready ended wire) (kernel_aborted ended)).queues unique ≡ None
-              → Moves k (cond b (made_ready ended wire) (kernel_aborted ended))
+              → Moves unique k (cond b (made_ready ended wire) (kernel_aborted ended))
           agreed true live gone none = ends_moves (made_ready ended wire)
               (unmoved ended (made_ready ended wire) refl refl (omega arith)) none gone
               (record { calls_below = ended_numbered.calls_below; one_request = ended_numbered.one_request })
@@ -180,24 +185,24 @@ module _ (k : Kernel) (one : OneEach k.queues) (n : CallsNumbered k) (unique : �
 
   -- ---- any reply
 
-  written_moves : is_live (reply_written k unique wire).1.phase ≡ true → Moves k (reply_written k unique wire).1
+  written_moves : is_live (reply_written k unique wire).1.phase ≡ true → Moves unique k (reply_written k unique wire).1
   written_moves live = by (nat_eq (unique % 2) 1) live
       (λ u less none. (written_gone u k unique wire (left_gone u k (less, none))).none)
     where
-      same_k : Moves k k
-      same_k = same_moves k k refl refl (omega arith) n
+      same_k : Moves unique k k
+      same_k = same_moves unique k k refl refl (omega arith) n
 
       effects : (original : ℕ) (x : InterruptReplyEffect) → CallsNumbered (record k { queues = after_reply_effect k.queues original x })
-          → Moves k (record k { queues = after_reply_effect k.queues original x })
+          → Moves unique k (record k { queues = after_reply_effect k.queues original x })
       effects original QueuedAgain numbered =
-          same_moves k (record k { queues = after_reply_effect k.queues original QueuedAgain }) refl refl (omega arith) numbered
+          same_moves unique k (record k { queues = after_reply_effect k.queues original QueuedAgain }) refl refl (omega arith) numbered
       effects original TurnedOff numbered =
-          same_moves k (record k { queues = after_reply_effect k.queues original TurnedOff }) refl refl (omega arith) numbered
+          same_moves unique k (record k { queues = after_reply_effect k.queues original TurnedOff }) refl refl (omega arith) numbered
       effects original NoReplyEffect numbered = same_k
 
       replies : (original : ℕ) (reply : InterruptReply) (o : Option Mark) → mark_under k.queues original ≡ o
           → CallsNumbered (record k { queues = after_interrupt_reply k.queues original reply })
-          → Moves k (record k {
+          → Moves unique k (record k {
             queues = option_map_or (λ m. after_reply_effect k.queues original
                 (reply_effect reply m (list_any (nat_eq original) k.queues.interrupts) k.queues.interrupts_off)) o k.queues;
           })
@@ -209,19 +214,19 @@ module _ (k : Kernel) (one : OneEach k.queues) (n : CallsNumbered k) (unique : �
                 (reply_effect reply m (list_any (nat_eq original) k.queues.interrupts) k.queues.interrupts_off)) o k.queues;
           })) at numbered)
 
-      interrupts : (x : WireReply) → Moves k (interrupt_replied k (unique - 1) x).1
+      interrupts : (x : WireReply) → Moves unique k (interrupt_replied k (unique - 1) x).1
       interrupts (failed errno) = replies (unique - 1) (interrupt_reply_of errno) (mark_under k.queues (unique - 1)) refl
           (interrupt_replied_numbered k n (unique - 1) (interrupt_reply_of errno))
       interrupts x = same_k
 
-      odd : (o : Option Purpose) → Moves k (interrupt_reply_written k unique wire o).1
+      odd : (o : Option Purpose) → Moves unique k (interrupt_reply_written k unique wire o).1
       odd None = same_k
       odd (Some kept) = interrupts wire
 
       even : (o : Option Purpose) → waiting k.queues unique ≡ o → is_live (request_reply_written k unique wire o).1.phase ≡ true
           → ((u : ℕ) → u < k.queues.next → request_under k.queues u ≡ None
           → request_under (request_reply_written k unique wire o).1.queues u ≡ None)
-          → Moves k (request_reply_written k unique wire o).1
+          → Moves unique k (request_reply_written k unique wire o).1
       even None waits alive gone = same_k
       even (Some kept) waits alive gone = ended_moves kept (waiting_is k.queues unique kept waits) alive gone
 
@@ -230,61 +235,61 @@ module _ (k : Kernel) (one : OneEach k.queues) (n : CallsNumbered k) (unique : �
           → ((u : ℕ) → u < k.queues.next → request_under k.queues u ≡ None
           → request_under (cond b (interrupt_reply_written k unique wire (waiting k.queues (unique - 1)))
           (request_reply_written k unique wire (waiting k.queues unique))).1.queues u ≡ None)
-          → Moves k (cond b (interrupt_reply_written k unique wire (waiting k.queues (unique - 1)))
+          → Moves unique k (cond b (interrupt_reply_written k unique wire (waiting k.queues (unique - 1)))
           (request_reply_written k unique wire (waiting k.queues unique))).1
       by true alive gone = odd (waiting k.queues (unique - 1))
       by false alive gone = even (waiting k.queues unique) refl alive gone
 
 -- ---- the kernel by itself
 
-alone_moves : (old new : Kernel) (acts : ActsAlone old new) → mounts_alone acts ≡ 0 → is_live new.phase ≡ true
-    → OneEach old.queues → CallsNumbered old → Moves old new
-alone_moves old new (mounts may) none live one n = absurd (omega (arith, none))
-alone_moves old new (begins call may) none live one n =
+pub alone_moves : (v : ℕ) (old new : Kernel) (acts : ActsAlone old new) → mounts_alone acts ≡ 0 → is_live new.phase ≡ true
+    → OneEach old.queues → CallsNumbered old → Moves v old new
+alone_moves v old new (mounts may) none live one n = absurd (omega (arith, none))
+alone_moves v old new (begins call may) none live one n =
     let c = for_minor old.lists_files call in record {
       still = λ u r read under was. inl ((begun_follows old n c).still u r under was);
       gone = λ u low none. (begun_gone u old c (left_gone u old (low, none))).none;
       numbered = begun_numbered old n c;
     }
-alone_moves old new (is_signalled call fatal effect q may is) none live one n =
-    subst (λ (r : IntrEffect × Kernel). Moves old r.1) is.signalled (
+alone_moves v old new (is_signalled call fatal effect q may is) none live one n =
+    subst (λ (r : IntrEffect × Kernel). Moves v old r.1) is.signalled (
     let on = signalled_on old one n call is.state fatal is.unanswered in record {
       still = λ u r read under was. inl (on.follows.still u r under was);
       gone = λ u low none. (signalled_gone u old call is.state fatal (left_gone u old (low, none))).none;
       numbered = on.numbered;
     }
     )
-alone_moves old new (ticks ms may) none live one n =
-    same_moves old new refl refl (omega arith) (record { calls_below = n.calls_below; one_request = n.one_request })
-alone_moves old new (drops_name directory name may) none live one n =
-    same_moves old new refl refl (omega arith) (record { calls_below = n.calls_below; one_request = n.one_request })
-alone_moves old new (evicts node counted may there) none live one n =
-    same_moves old new refl refl (omega arith) (record { calls_below = n.calls_below; one_request = n.one_request })
-alone_moves old new (aborts may) none live one n = absurd (false≢true live)
-alone_moves old new (gives_answer call) none live one n =
-    same_moves old new refl refl (omega arith) (record { calls_below = n.calls_below; one_request = n.one_request })
+alone_moves v old new (ticks ms may) none live one n =
+    same_moves v old new refl refl (omega arith) (record { calls_below = n.calls_below; one_request = n.one_request })
+alone_moves v old new (drops_name directory name may) none live one n =
+    same_moves v old new refl refl (omega arith) (record { calls_below = n.calls_below; one_request = n.one_request })
+alone_moves v old new (evicts node counted may there) none live one n =
+    same_moves v old new refl refl (omega arith) (record { calls_below = n.calls_below; one_request = n.one_request })
+alone_moves v old new (aborts may) none live one n = absurd (false≢true live)
+alone_moves v old new (gives_answer call) none live one n =
+    same_moves v old new refl refl (omega arith) (record { calls_below = n.calls_below; one_request = n.one_request })
 
 -- ---- a read
 
-picked_moves : (k : Kernel) (pick : Pick) → CallsNumbered k → Moves k (record k { queues = after_pick k.queues pick })
-picked_moves k Interrupt n = same_moves k (record k { queues = after_pick k.queues Interrupt }) refl refl (omega arith)
+pub picked_moves : (v : ℕ) (k : Kernel) (pick : Pick) → CallsNumbered k → Moves v k (record k { queues = after_pick k.queues pick })
+picked_moves v k Interrupt n = same_moves v k (record k { queues = after_pick k.queues Interrupt }) refl refl (omega arith)
     (record { calls_below = n.calls_below; one_request = n.one_request })
-picked_moves k (Forgets count) n = by (can_read_forgets k.queues count)
+picked_moves v k (Forgets count) n = by (can_read_forgets k.queues count)
   where
-    by : (b : Bool) → Moves k (record k {
+    by : (b : Bool) → Moves v k (record k {
       queues = cond b (record k.queues { forgets = drop count k.queues.forgets; next = k.queues.next + 2 }) k.queues;
     })
-    by true = same_moves k (record k {
+    by true = same_moves v k (record k {
       queues = record k.queues { forgets = drop count k.queues.forgets; next = k.queues.next + 2 };
     }) refl refl (omega arith) (record { calls_below = n.calls_below; one_request = n.one_request })
-    by false = same_moves k k refl refl (omega arith) n
-picked_moves k (Pending place) n = by (slice_get (pending k.queues) place) refl
+    by false = same_moves v k k refl refl (omega arith) n
+picked_moves v k (Pending place) n = by (slice_get (pending k.queues) place) refl
     (λ u low none. (read_gone u k place (left_gone u k (low, none))).none)
   where
     marked : (e : Entry) → slice_get (pending k.queues) place ≡ Some e → (m : Mark) (l : Kernel)
         → l.queues.requests ≡ set_mark e.0 k.queues.requests m → l.vfs.calls ≡ k.vfs.calls
         → ((u : ℕ) → u < k.queues.next → request_under k.queues u ≡ None → request_under l.queues u ≡ None)
-        → CallsNumbered l → Moves k l
+        → CallsNumbered l → Moves v k l
     marked e at m l requests calls gone numbered = record {
       still = λ u r read under was.
           let seen = each_at (IsRead u) (λ x. is_unread x.1.mark) k.queues.requests place e read at in
@@ -308,28 +313,29 @@ picked_moves k (Pending place) n = by (slice_get (pending k.queues) place) refl
     by : (o : Option Entry) → slice_get (pending k.queues) place ≡ o
         → ((u : ℕ) → u < k.queues.next → request_under k.queues u ≡ None → request_under
         (option_map_or (λ e. after_reading k.queues e.0 e.1.mark) o k.queues) u ≡ None)
-        → Moves k (record k { queues = option_map_or (λ e. after_reading k.queues e.0 e.1.mark) o k.queues })
-    by None at gone = same_moves k k refl refl (omega arith) n
+        → Moves v k (record k { queues = option_map_or (λ e. after_reading k.queues e.0 e.1.mark) o k.queues })
+    by None at gone = same_moves v k k refl refl (omega arith) n
     by (Some e) at gone = read_as e.1.mark gone (read_numbered k n (Some e))
       where
         read_as : (m : Mark) → ((u : ℕ) → u < k.queues.next → request_under k.queues u ≡ None
             → request_under (after_reading k.queues e.0 m) u ≡ None) → CallsNumbered (record k { queues = after_reading k.queues e.0 m })
-            → Moves k (record k { queues = after_reading k.queues e.0 m })
+            → Moves v k (record k { queues = after_reading k.queues e.0 m })
         read_as mark.Unread gone numbered = marked e at mark.Read
             (record k { queues = after_reading k.queues e.0 mark.Unread }) refl refl gone numbered
         read_as mark.Flagged gone numbered = marked e at mark.Interrupted
             (record k { queues = after_reading k.queues e.0 mark.Flagged }) refl refl gone numbered
-        read_as mark.Read gone numbered = same_moves k k refl refl (omega arith) n
-        read_as mark.Interrupted gone numbered = same_moves k k refl refl (omega arith) n
+        read_as mark.Read gone numbered = same_moves v k k refl refl (omega arith) n
+        read_as mark.Interrupted gone numbered = same_moves v k k refl refl (omega arith) n
 
 -- ---- bytes as a reply
 
 module _ (old : Kernel) (bytes : List ℕ) (result : WriteResult) (new : Kernel) (taken : IsReplyTaken old bytes result new)
     (live : is_live new.phase ≡ true) (one : OneEach old.queues) (n : CallsNumbered old) where
-  moved : (o : Opcode) (wire : WireReply) → reply_written old (head_unique bytes) wire ≡ (result, new) → Moves old new
+  pub moved : (o : Opcode) (wire : WireReply) → reply_written old (head_unique bytes) wire ≡ (result, new)
+      → Moves (head_unique bytes) old new
   moved o wire same =
       let to : (reply_written old (head_unique bytes) wire).1 ≡ new = ap (λ (r : WriteResult × Kernel). r.1) same in
-      subst (Moves old) to (written_moves old one n (head_unique bytes) wire (ap (λ (k : Kernel). is_live k.phase) to ∙ live))
+      subst (Moves (head_unique bytes) old) to (written_moves old one n (head_unique bytes) wire (ap (λ (k : Kernel). is_live k.phase) to ∙ live))
 
   taken_numbered : CallsNumbered new
   taken_numbered = holds_as_taken old bytes result new taken (CallsNumbered new) (numbered_stable new) by
@@ -344,7 +350,7 @@ module _ (old : Kernel) (bytes : List ℕ) (result : WriteResult) (new : Kernel)
     where
       by : TakenAs old bytes result new → AwaitsOnly o u new
       by (refused_whole refused no_entry same) = subst (AwaitsOnly o u) (sym same) only
-      by (is_read p wire awaits means same) = moves_only o u old new low read (moved p wire same) only
+      by (is_read p wire awaits means same) = moves_only o u (head_unique bytes) old new low read (moved p wire same) only
 
 -- ---- steps
 
@@ -356,7 +362,7 @@ mounted_numbered : (k : Kernel) → CallsNumbered (kernel_mounted k)
 mounted_numbered k = record { calls_below = λ c le. refl; one_request = λ c. omega arith }
 
 -- What was true of a live kernel is used, or it was dead, and stays so.
-by_live : {P : Type 0} (k : Kernel) → (is_live k.phase ≡ true → P) → (is_live k.phase ≡ false → P) → P
+pub by_live : {P : Type 0} (k : Kernel) → (is_live k.phase ≡ true → P) → (is_live k.phase ≡ false → P) → P
 by_live {P} k alive dead = by (is_live k.phase) refl
   where
     by : (b : Bool) → is_live k.phase ≡ b → P
@@ -369,7 +375,7 @@ Knows o u k = is_live k.phase ≡ true → Passed u k.queues × AwaitsOnly o u k
 
 module _ (old new : Kernel) (one : OneEach old.queues) (empty : EmptyUnlessLive old) (well : WellNumbered old) where
   alone_well : (acts : ActsAlone old new) → mounts_alone acts ≡ 0 → WellNumbered new
-  alone_well acts none live = by_live old (λ alive. (alone_moves old new acts none live one (well alive)).numbered)
+  alone_well acts none live = by_live old (λ alive. (alone_moves 0 old new acts none live one (well alive)).numbered)
       (λ dead. absurd (true≢false (sym live ∙ alone_dead old new acts none dead)))
 
   alone_knows : (o : Opcode) (u : ℕ) (acts : ActsAlone old new) → mounts_alone acts ≡ 0 → Knows o u old → Knows o u new
@@ -377,7 +383,7 @@ module _ (old new : Kernel) (one : OneEach old.queues) (empty : EmptyUnlessLive 
       let was = knows alive in
       let low = was.0 in (
         alone_keeps (Passed u) (passed_stable u) (moves_passed u) old new acts none (λ l. (knows l).0) live,
-        moves_only o u old new low.low low.read (alone_moves old new acts none live one (well alive)) was.1,
+        moves_only o u 0 old new low.low low.read (alone_moves 0 old new acts none live one (well alive)) was.1,
       )) (λ dead. absurd (true≢false (sym live ∙ alone_dead old new acts none dead)))
 
   taken_well : (bytes : List ℕ) (result : WriteResult) → IsReplyTaken old bytes result new → WellNumbered new
@@ -395,14 +401,14 @@ module _ (old new : Kernel) (one : OneEach old.queues) (empty : EmptyUnlessLive 
 
 module _ (k : Kernel) (pick : Pick) (well : WellNumbered k) where
   picked_well : WellNumbered (record k { queues = after_pick k.queues pick })
-  picked_well live = (picked_moves k pick (well live)).numbered
+  picked_well live = (picked_moves 0 k pick (well live)).numbered
 
   picked_knows : (o : Opcode) (u : ℕ) → Knows o u k → Knows o u (record k { queues = after_pick k.queues pick })
   picked_knows o u knows live =
       let was = knows live in
       let low = was.0 in (
         picked_passed u k.queues pick low,
-        moves_only o u k (record k { queues = after_pick k.queues pick }) low.low low.read (picked_moves k pick (well live)) was.1,
+        moves_only o u 0 k (record k { queues = after_pick k.queues pick }) low.low low.read (picked_moves 0 k pick (well live)) was.1,
       )
 
 -- ---- a step

@@ -1,5 +1,5 @@
 -- A kernel that keeps the rules is never accused: of what `drive` sends the definitions of sessions have no fault.
-use Rattle.std.specs.Prelude.{◌≡◌, ◌≤◌, ℕ, Bool, true, false, List, [], ◌∷◌, ◌++◌}
+use Rattle.std.specs.Prelude.{◌≡◌, ◌≤◌, ℕ, Bool, true, List, [], ◌∷◌, ◌++◌}
 use Rattle.fuse_device.specs.Transfers.{Transfer}
 use Rattle.fk_drive.specs.Driving.{Driven, Drives, first_driven}
 use Rattle.fk_drive_theorem.specs.TakenOnce.{mounts_in}
@@ -81,8 +81,3 @@ IsFreeWhereTakenAndCarried group {log = log} run = (ts : List Said) → AreSaid 
 abbrev pub NeverAccusedMountedOnceWhereTaken : (Fault → Bool) → Type 0
 NeverAccusedMountedOnceWhereTaken group = (asks : Bool) (log : List Transfer) (new : Driven)
     (run : Drives (first_driven asks) log new) → IsOneMount run → IsFreeWhereTakenAndCarried group run
-
--- The same of a kernel that opens no directory before it is listed.
-abbrev pub NeverAccusedUnopenedWhereTaken : (Fault → Bool) → Type 0
-NeverAccusedUnopenedWhereTaken group = (asks : Bool) (log : List Transfer) (new : Driven)
-    (run : Drives (first_driven asks) log new) → asks ≡ false → IsOneMount run → IsFreeWhereTakenAndCarried group run

@@ -1,5 +1,5 @@
 -- The rules that a kernel keeps as it is driven over a device.
-use Rattle.std.specs.Prelude.{◌≡◌, Bool, false, List}
+use Rattle.std.specs.Prelude.{Bool, List}
 use Rattle.fuse_device.specs.Transfers.{Transfer}
 use Rattle.fk_drive.specs.Driving.{Driven, Drives, first_driven}
 use Rattle.driven_sessions.specs.Driven.{IsFreeOf, IsFreeWhereCarried, IsFreeWhereTaken, IsFreeWhereTakenAndCarried, IsOneMount}
@@ -27,5 +27,4 @@ pub record KeepsRules {D : Type 0} (logs : D → D → List Transfer → Type 0)
   pub early_requests : IsFreeWhereTaken is_of_early_requests run
   -- where that is so, each agreement carries the codec's frames, and the kernel mounts once
   pub large_forgets : IsOneMount run → IsFreeWhereTakenAndCarried is_of_large_forgets run
-  -- and where besides it opens no directory before it is listed
-  pub uncounted_nodes : asks ≡ false → IsOneMount run → IsFreeWhereTakenAndCarried is_of_uncounted_nodes run
+  pub uncounted_nodes : IsOneMount run → IsFreeWhereTakenAndCarried is_of_uncounted_nodes run

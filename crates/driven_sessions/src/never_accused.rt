@@ -4,7 +4,7 @@ ghost use Rattle.std.specs.Prelude.{Bool, List};
 ghost use Rattle.fuse_device.specs.Transfers.{Transfer};
 ghost use Rattle.fk_drive.specs.Driving.{Driven, Drives, first_driven};
 ghost use Rattle.driven_sessions.specs.Transfers.{AllSent, IsShaped};
-ghost use Rattle.driven_sessions.specs.Driven.{NeverAccused, NeverAccusedMountedOnce, NeverAccusedMountedOnceWhereTaken, NeverAccusedUnopenedWhereTaken, NeverAccusedWhereCarried, NeverAccusedWhereTaken};
+ghost use Rattle.driven_sessions.specs.Driven.{NeverAccused, NeverAccusedMountedOnce, NeverAccusedMountedOnceWhereTaken, NeverAccusedWhereCarried, NeverAccusedWhereTaken};
 ghost use Rattle.driven_sessions.specs.Groups.{is_of_early_requests, is_of_empty_forgets, is_of_interrupt_numbers, is_of_large_forgets, is_of_large_writes, is_of_late_inits, is_of_odd_numbers, is_of_one_thread, is_of_resends, is_of_shapes, is_of_uncounted_nodes, is_of_used_numbers};
 
 /// Each frame that is sent is a request of a row, under each agreement that carries the codec's frames: no extensions, names
@@ -73,9 +73,9 @@ pub fn forgets_are_of_what_is_counted()
     ensures { NeverAccusedMountedOnceWhereTaken is_of_large_forgets }
 {}
 
-/// No request names a node that is not counted, in one mount of a kernel that opens no directory before it is listed: where
-/// of each frame that the kernel accepted the session says so too, and that its request waited then, and each agreement of it
-/// carries the codec's frames.
+/// No request names a node that is not counted, in one mount: where of each frame that the kernel accepted the session says so
+/// too, and that its request waited then, and each agreement of it carries the codec's frames. OPENDIR and RELEASEDIR are within
+/// it.
 pub fn nodes_are_counted()
-    ensures { NeverAccusedUnopenedWhereTaken is_of_uncounted_nodes }
+    ensures { NeverAccusedMountedOnceWhereTaken is_of_uncounted_nodes }
 {}
