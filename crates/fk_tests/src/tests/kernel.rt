@@ -10,7 +10,7 @@ use fk_lookup_count::{CountTable, KernelNodes};
 use fk_queues::{QueueTable, Queues};
 use fk_wire::Opcode;
 use fuse_frames::RequestFrame;
-use fuse_spec::{Attributes, IntrEffect, Kind, Purpose, Refusal, WriteResult};
+use fuse_spec::{Attributes, Dentry, IntrEffect, Kind, Purpose, Refusal, WriteResult};
 use std::alloc::{AllocError, Allocator, Global};
 use std::process::Abort;
 
@@ -93,6 +93,12 @@ enum Row {
     Unanswered(usize),
     /// The counted nodes in rising id, each with its generation and its count.
     Nodes(&'static [(u64, u64, u64)]),
+    /// What a name is cached as.
+    Cached(u64, &'static str, Option<Dentry>),
+    /// The first cached name and its directory, if there is one.
+    FirstCached(Option<(u64, &'static str)>),
+    /// The number of the request that serves a call, if one does.
+    Serves(u64, Option<u64>),
 }
 
 /// Mounts, and answers INIT.
@@ -325,6 +331,19 @@ fn lists<Q: RequestQueues, C: LookupCounts<Heap = Q::Heap>>(
     }
 }
 
+fn is_first_cached<Q: RequestQueues, C: LookupCounts<Heap = Q::Heap>>(
+    kernel: &KernelOf<Q, C>,
+    wanted: Option<(u64, &str)>,
+) -> bool {
+    match (kernel.first_cached_name(), wanted) {
+        (Some((directory, name)), Some(wanted)) => {
+            directory == wanted.0 && name == wanted.1.as_bytes()
+        }
+        (None, None) => true,
+        _ => false,
+    }
+}
+
 impl<Q: RequestQueues, C: LookupCounts<Heap = Q::Heap>> Tried<Row, Q::Heap> for KernelOf<Q, C> {
     fn attempt(&mut self, heap: Q::Heap, alloc: Global, row: Row) -> Outcome {
         match row {
@@ -342,6 +361,11 @@ impl<Q: RequestQueues, C: LookupCounts<Heap = Q::Heap>> Tried<Row, Q::Heap> for 
             Row::Answered(number, expected) => judged(answers(self, number, expected)),
             Row::Unanswered(calls) => judged(are_unanswered(self, calls)),
             Row::Nodes(nodes) => lists(self, heap, nodes),
+            Row::Cached(directory, name, wanted) => {
+                judged(self.cached_name(directory, name.as_bytes()) == wanted)
+            }
+            Row::FirstCached(wanted) => judged(is_first_cached(self, wanted)),
+            Row::Serves(call, wanted) => judged(self.request_for(call) == wanted),
         }
     }
 }

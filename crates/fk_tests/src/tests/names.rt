@@ -3,6 +3,7 @@
 use crate::tests::assert_right;
 use fail_at::{FailAt, Outcome, Tried, first_wrong, judged};
 use fk_dentry::{Bindings, Found};
+use fuse_spec::Dentry;
 use std::alloc::{AllocError, Allocator, Global};
 use std::process::Abort;
 use std::test::Fail;
@@ -20,6 +21,10 @@ enum Row {
     Find(u64, &'static str, u64, Found),
     /// The nodes below 8 that a name stands in, or leads to, a bit for each.
     Named(u8),
+    /// What a name is bound to, past its end too.
+    Bound(u64, &'static str, Option<Dentry>),
+    /// A name that is bound and its directory, if there is one.
+    First(Option<(u64, &'static str)>),
 }
 
 fn bind<A: Allocator + Copy>(
@@ -43,6 +48,17 @@ fn named<A: Allocator + Copy>(names: &Bindings<A>) -> u8 {
         }
     }
     nodes
+}
+
+/// Whether this is the name that is bound first, or none is.
+fn is_first<A: Allocator + Copy>(names: &Bindings<A>, wanted: Option<(u64, &str)>) -> bool {
+    match (names.first(), wanted) {
+        (Some((directory, name)), Some(wanted)) => {
+            directory == wanted.0 && name == wanted.1.as_bytes()
+        }
+        (None, None) => true,
+        _ => false,
+    }
 }
 
 /// What making room results in.
@@ -71,13 +87,28 @@ impl<A: Allocator + Copy> Tried<Row, A> for Bindings<A> {
                 judged(self.find(directory, name.as_bytes(), now) == found)
             }
             Row::Named(nodes) => judged(named(self) == nodes),
+            Row::Bound(directory, name, wanted) => {
+                judged(self.bound(directory, name.as_bytes()) == wanted)
+            }
+            Row::First(wanted) => judged(is_first(self, wanted)),
         }
     }
 }
 
-static CALLS: [Row; 27] = [
+static CALLS: [Row; 34] = [
     Row::Find(1, "a", 0, Found::Unknown),
+    Row::First(None),
+    Row::Bound(1, "a", None),
     Row::Bind(1, "a", Some(3), 1000),
+    Row::First(Some((1, "a"))),
+    Row::Bound(
+        1,
+        "a",
+        Some(Dentry {
+            target: Some(3),
+            until: 1000,
+        }),
+    ),
     Row::Bind(1, "b", None, 1000),
     Row::Find(1, "a", 999, Found::Node(3)),
     Row::Find(1, "a", 1000, Found::Unknown),
@@ -95,15 +126,18 @@ static CALLS: [Row; 27] = [
     Row::Named(0b11_0010),
     // room for a name binds nothing
     Row::Reserve(7, "room"),
+    Row::Bound(7, "room", None),
     Row::Remove(7, "room", false),
     Row::Bind(6, "a name that is not short", Some(7), 1),
     Row::Bind(6, "another one", Some(7), 1),
     Row::Bind(6, "and a third", Some(2), 1),
     Row::Named(0b1111_0110),
     Row::Clear,
+    Row::First(None),
     Row::Named(0),
     Row::Find(4, "a", 0, Found::Unknown),
     Row::Bind(1, "a", Some(2), 1),
+    Row::First(Some((1, "a"))),
 ];
 
 /// The calls on new names.

@@ -5,28 +5,43 @@ use super::{Expected, Reads, Row, START, Written, run_on};
 use fail_at::FailAt;
 use fk_kernel::Call;
 use fk_wire::Opcode;
-use fuse_spec::{Attributes, IntrEffect, Kind, Refusal, WriteResult};
+use fuse_spec::{Attributes, Dentry, IntrEffect, Kind, Refusal, WriteResult};
 use std::alloc::{Allocator, Global};
 use std::process::Abort;
 use std::test::Fail;
 
 /// Names are looked up, and a directory and a file made.
-static FOUND_AND_MADE: [Row; 24] = [
+static FOUND_AND_MADE: [Row; 34] = [
+    Row::FirstCached(None),
+    Row::Serves(1, None),
     // names are found for a second, and missing for a quarter
     Row::Begin(Call::Stat { path: b"/m" }, Ok(1)),
+    Row::Serves(1, Some(4)),
     Row::Read(
         0,
         Reads::Frame(
             "2a000000 01000000 0400000000000000 0100000000000000 00000000 00000000 00000000 00000000 6d00",
         ),
     ),
+    Row::Serves(1, Some(4)),
     Row::Write(
         Written::Whole(
             "90000000 00000000 0400000000000000 0000000000000000 0000000000000000 0000000000000000 0000000000000000 80b2e60e 00000000 0000000000000000 0000000000000000 0000000000000000 0000000000000000 0000000000000000 0000000000000000 00000000 00000000 00000000 00000000 00000000 00000000 00000000 00000000 00000000 00000000",
         ),
         WriteResult::Accepted,
     ),
+    Row::Serves(1, None),
     Row::Answered(1, Expected::Errno(2)),
+    Row::FirstCached(Some((1, "m"))),
+    Row::Cached(
+        1,
+        "m",
+        Some(Dentry {
+            target: None,
+            until: 250,
+        }),
+    ),
+    Row::Cached(2, "m", None),
     Row::Begin(Call::Stat { path: b"/m" }, Ok(2)),
     Row::Answered(2, Expected::Errno(2)),
     Row::Tick(250, Ok(250)),
@@ -87,6 +102,22 @@ static FOUND_AND_MADE: [Row; 24] = [
         WriteResult::Accepted,
     ),
     Row::Answered(6, Expected::Done),
+    Row::Cached(
+        1,
+        "d",
+        Some(Dentry {
+            target: Some(2),
+            until: 1250,
+        }),
+    ),
+    Row::Cached(
+        2,
+        "f",
+        Some(Dentry {
+            target: Some(3),
+            until: 1250,
+        }),
+    ),
     Row::Nodes(&[(2, 7, 1), (3, 8, 1)]),
 ];
 
