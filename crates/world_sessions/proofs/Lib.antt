@@ -1,0 +1,5 @@
+mod Served
+mod Alone
+mod Reading
+mod Written
+mod Driven

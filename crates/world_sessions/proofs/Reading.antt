@@ -1,0 +1,79 @@
+-- What is read from the kernel of a world is read from a driven kernel, and sent.
+use Rattle.std.proofs.Common.{◌≡◌, ℕ, Bool, true, false, not, ◌&&◌, cond, List, [], ◌∷◌, ◌++◌, length, take, Option, Some, None, nat_eq, append-nil, refl, ap, subst, ◌∙◌}
+use Rattle.std.specs.Prelude.{nat_lt}
+use Rattle.std.proofs.lemmas.Bool.{false≢true}
+use Rattle.fuse_device.specs.Transfers.{Transfer, sent}
+use Rattle.fuse_spec.specs.declared.Purpose.{Purpose}
+use Rattle.fuse_spec.specs.declared.Refusal.TheVariants.{Exhausted, InterruptFirst, NotReady}
+use Rattle.fuse_spec.specs.declared.WriteResult.{WriteResult}
+use Rattle.fuse_spec.specs.Kernel.Kernel.{Kernel, body_of, forgets_read, forgets_singly, is_live}
+use Rattle.fuse_spec.specs.Kernel.Messages.{Forget, Request, RequestBody}
+use Rattle.fuse_spec.specs.Kernel.QueueCalls.{after_read_forgets, can_read_forgets, pending_at}
+use Rattle.fuse_spec.specs.Kernel.Refusals.{accepted, first_found, found, is_kernel_past_end, refusal_in, unless}
+use Rattle.fuse_frames.specs.RequestTies.{SaysRequest}
+use Rattle.fk_kernel.specs.Picks.{IsPicked, after_pick, pick_refusal}
+use Rattle.fk_kernel.specs.declared.pick.Pick.{Pick}
+use Rattle.fk_kernel.specs.declared.pick.Pick.TheVariants.{Forgets, Interrupt, Pending}
+use Rattle.fk_drive.specs.Driving.{Driven, Drives, first_driven, idle, picked, reads, sends, with_result, next}
+use Rattle.fk_drive_frames.specs.OwnRequests.{first_opendir_unique}
+
+-- A driven kernel between two events of a world.
+abbrev pub driven_by : Kernel → Driven
+driven_by k = record { kernel = k; waiting = []; next = first_opendir_unique; asks = false; directories = []; turn = idle }
+
+module _ (k : Kernel) (before : List Transfer) (run : Drives (first_driven false) before (driven_by k)) where
+  pub goes_over : (pick : Pick) → pick_refusal k pick ≡ None → (r : Request) → IsPicked k pick r → (frame : List ℕ)
+      → SaysRequest frame r → (result : WriteResult)
+      → Drives (first_driven false) (before ++ sent frame result ∷ []) (driven_by (record k { queues = after_pick k.queues pick }))
+  goes_over pick may r is frame says result =
+      let l : Kernel = record k { queues = after_pick k.queues pick } in
+      let mid : Driven = record (driven_by k) { kernel = l; turn = picked r } in
+      subst (λ (first : List Transfer). Drives (first_driven false) (first ++ sent frame result ∷ []) (driven_by l)) (append-nil before)
+      (next (before ++ []) mid (next before (driven_by k) run [] mid (reads refl pick may r is)) (sent frame result ∷ [])
+      (driven_by l) (sends r refl (λ asks. absurd (false≢true asks)) frame says (sent frame result ∷ []) (with_result result)))
+
+-- ---- nothing refuses it
+
+module _ (k : Kernel) (live : is_live k.phase ≡ true) where
+  pub may_interrupt : (original : ℕ) (rest : List ℕ) → k.queues.interrupts ≡ original ∷ rest → pick_refusal k Interrupt ≡ None
+  may_interrupt original rest there =
+      ap (λ (xs : List ℕ). refusal_in (unless (not (is_live k.phase)) NotReady (first_found xs (λ (u : ℕ). accepted)))) there
+      ∙ ap (λ (b : Bool). refusal_in (unless (not b) NotReady accepted)) live
+
+  module _ (free : k.queues.interrupts ≡ []) where
+    none_first : (b : Bool) → b ≡ true → (o : List ℕ) → o ≡ [] → (c : Bool) → c ≡ false
+        → refusal_in (unless (not b) NotReady (unless (not (nat_eq (length o) 0)) InterruptFirst (unless c Exhausted accepted))) ≡ None
+    none_first true is [] free false within = refl
+    none_first false is o free c within = absurd (cc is)
+    none_first true is (x ∷ o) free c within = absurd (cc free)
+    none_first true is [] free true within = absurd (cc within)
+
+    pub may_forget : (n : ℕ) (read : ℕ × List Forget) → forgets_read k n ≡ Some read
+        → is_kernel_past_end (record k { queues = after_read_forgets k.queues n }) ≡ false → pick_refusal k (Forgets n) ≡ None
+    may_forget n read there within =
+        ap (λ (o : Option (ℕ × List Forget)). refusal_in (unless (not (is_live k.phase)) NotReady
+        (unless (not (nat_eq (length k.queues.interrupts) 0)) InterruptFirst
+        (found o (λ (r : ℕ × List Forget). unless (is_kernel_past_end (record k { queues = after_read_forgets k.queues n })) Exhausted accepted))))) there
+        ∙ none_first (is_live k.phase) live k.queues.interrupts free
+        (is_kernel_past_end (record k { queues = after_read_forgets k.queues n })) within
+
+    pub may_read : (place unique : ℕ) (kept : Purpose) (body : RequestBody) → pending_at k.queues place ≡ Some (unique, kept)
+        → body_of k kept ≡ Some body → pick_refusal k (Pending place) ≡ None
+    may_read place unique kept body there asks =
+        ap (λ (o : Option (ℕ × Purpose)). refusal_in (unless (not (is_live k.phase)) NotReady
+        (unless (not (nat_eq (length k.queues.interrupts) 0)) InterruptFirst
+        (found o (λ (r : ℕ × Purpose). found (body_of k r.1) (λ (b : RequestBody). accepted)))))) there
+        ∙ ap (λ (o : Option RequestBody). refusal_in (unless (not (is_live k.phase)) NotReady
+        (unless (not (nat_eq (length k.queues.interrupts) 0)) InterruptFirst (found o (λ (b : RequestBody). accepted))))) asks
+        ∙ none_first (is_live k.phase) live k.queues.interrupts free false refl
+
+  pub forgets_are : (n : ℕ) → can_read_forgets k.queues n ≡ true → (forgets_singly k.minor && nat_lt 1 n) ≡ false
+      → forgets_read k n ≡ Some (k.queues.next, take n k.queues.forgets)
+  forgets_are n can few = by (forgets_singly k.minor && nat_lt 1 n) (can_read_forgets k.queues n) few can
+    where
+      by : (a b : Bool) → a ≡ false → b ≡ true → ◌≡◌ {A = Option (ℕ × List Forget)}
+          (cond {A = Option (ℕ × List Forget)} a None (cond {A = Option (ℕ × List Forget)} b (Some (k.queues.next, take n k.queues.forgets)) None))
+          (Some (k.queues.next, take n k.queues.forgets))
+      by false true few can = refl
+      by true b few can = absurd (cc few)
+      by false false few can = absurd (cc can)

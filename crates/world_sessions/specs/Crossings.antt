@@ -1,0 +1,46 @@
+-- What goes over the device between the two sides of a world.
+use Rattle.std.specs.Prelude.{◌≡◌, ℕ, List, [], ◌∷◌, ◌++◌, Some, slice_get}
+use Rattle.fuse_device.specs.Transfers.{Transfer, received, sent}
+use Rattle.fuse_spec.specs.declared.WriteResult.{WriteResult}
+use Rattle.fuse_spec.specs.Kernel.Kernel.{Kernel}
+use Rattle.fuse_spec.specs.Kernel.Messages.{Request, WireReply}
+use Rattle.fuse_spec.specs.World.Events.{Event, Outcome}
+use Rattle.fuse_spec.specs.World.Events as event
+use Rattle.fuse_spec.specs.World.Steps.{Happens}
+use Rattle.fuse_spec.specs.World.Worlds.{Sent, World, first_world}
+use Rattle.fuse_frames.specs.RequestTies.{SaysRequest}
+use Rattle.fk_wire.specs.declared.opcode.Opcode.{Opcode}
+use Rattle.fk_kernel.specs.AwaitedReplies.{HasReplyHead, Says, awaited, head_unique, reply_to}
+use Rattle.fk_drive_frames.specs.Agreements.{IsOlderAgreement}
+
+-- The bytes are a reply under this unique, and say this to the request that awaits it, if one does. None is an agreement on a
+-- minor between 16 and 30, which this project's server never gives.
+pub record IsReplyOf (k : Kernel) (bytes : List ℕ) (unique : ℕ) (wire : WireReply) : Type 0 where
+  pub head : HasReplyHead bytes
+  pub under : head_unique bytes ≡ unique
+  pub says : (o : Opcode) → awaited k unique ≡ reply_to o → Says o bytes wire
+  pub known : IsOlderAgreement bytes → ⊥
+
+-- A request that goes onto its link is sent in a frame that spells it.
+abbrev pub CrossesRequest : World → World → List Transfer → Type 0
+CrossesRequest w after log = (r : Request) × (after.requests ≡ w.requests ++ r ∷ []) × (frame : List ℕ) × SaysRequest frame r
+    × (result : WriteResult) × (log ≡ sent frame result ∷ [])
+
+-- A copy of a reply that the kernel takes is received in bytes that say it.
+abbrev pub CrossesReply : World → (place : ℕ) → List Transfer → Type 0
+CrossesReply w place log = (copy : Sent) × (slice_get w.replies place ≡ Some copy) × (bytes : List ℕ)
+    × IsReplyOf w.kernel bytes copy.unique copy.wire × (log ≡ received bytes ∷ [])
+
+-- At an event this goes over the device.
+abbrev pub Crosses : World → Event → World → List Transfer → Type 0
+Crosses w event.read_interrupt after log = CrossesRequest w after log
+Crosses w (event.read_forgets n) after log = CrossesRequest w after log
+Crosses w (event.read_pending place) after log = CrossesRequest w after log
+Crosses w (event.write place) after log = CrossesReply w place log
+Crosses w e after log = log ≡ []
+
+-- A run of the world from its beginning, and what went over the device in it.
+pub data HasCrossed : List Transfer → World → Type 0 where
+  nothing : HasCrossed [] first_world
+  next : (before : List Transfer) (mid : World) → HasCrossed before mid → (e : Event) (o : Outcome) (after : World)
+      → Happens mid e o after → (log : List Transfer) → Crosses mid e after log → HasCrossed (before ++ log) after

@@ -1,0 +1,17 @@
+//! What goes over the device between the two sides of a world: a session in which the kernel keeps the rules.
+//!
+//! In a world requests and replies are values. Here each is a frame that says it, and the kernel of a world is one that is
+//! driven over a device: so what is proved of driven kernels is true of it.
+#![tactic(auto)]
+
+ghost use Rattle.world_sessions.specs.KernelRules.{KernelIsDriven, KernelKeepsRules};
+
+/// What goes over the device in a run of the world drives the world's kernel, and no other.
+pub fn kernel_is_driven()
+    ensures { KernelIsDriven }
+{}
+
+/// The kernel of a world keeps the rules, whatever the events are.
+pub fn kernel_keeps_rules()
+    ensures { KernelKeepsRules }
+{}
