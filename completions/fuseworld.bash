@@ -19,7 +19,7 @@ _fuseworld() {
             check) flags="--server --kernel --json --node --summary --strict --joined --help"; files=yes ;;
             vectors) flags="--all --help" ;;
             serve) flags="--found --missing --minor --show --trace --check --capture --help"; files=yes ;;
-            drive) flags="--calls --beside --no-opendir --trace --json --check --report-only --capture --wait --offer --random --any --seed --events --orders --number --nth --help"; files=yes ;;
+            drive) flags="--calls --beside --no-opendir --trace --json --check --report-only --capture --wait --offer --random --any --quick --seed --events --orders --number --nth --help"; files=yes ;;
             kernel | server) flags="--json --help" ;;
             help) words=$commands ;;
         esac

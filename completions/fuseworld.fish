@@ -64,6 +64,7 @@ complete -c fuseworld -n '__fish_seen_subcommand_from drive' -l wait -x -d 'How 
 complete -c fuseworld -n '__fish_seen_subcommand_from drive' -l offer -x -d 'Further flags of INIT, in hex'
 complete -c fuseworld -n '__fish_seen_subcommand_from drive' -l random -d 'Choose the events, in the place of a script'
 complete -c fuseworld -n '__fish_seen_subcommand_from drive' -l any -d 'Choose also what Linux would not send'
+complete -c fuseworld -n '__fish_seen_subcommand_from drive' -l quick -d 'Look over the tree at the end alone'
 complete -c fuseworld -n '__fish_seen_subcommand_from drive' -l seed -x -d 'The number that chooses them'
 complete -c fuseworld -n '__fish_seen_subcommand_from drive' -l events -x -d 'How many are chosen'
 complete -c fuseworld -n '__fish_seen_subcommand_from drive' -l orders -d 'Print every order of the messages of calls'

@@ -222,10 +222,13 @@ def run_frames():
     for error in (5, -512):
         judge(f"an error of {error} in a reply", on_frames([], [*STAT, "write"], AGREES, [struct.pack("<IiQ", 16, error, 4), ATTR]),
               ([*STATED, "written 0 22", f"no reply's head: error {error}", *ANSWERED], 6))
-    for length in (0, 15, 131073, 0xffffffff):
-        judge(f"a len of {length}", on_frames([], STAT, AGREES, [struct.pack("<IiQ", length, 0, 4)]), ([*STATED, "device failed"], 4))
-    judge("a frame is cut short by the end", on_frames([], STAT, AGREES, [ATTR[:20], CLOSE]), ([*STATED, "device failed"], 4))
-    judge("a frame is cut short by silence", on_frames(SHORT_WAIT, STAT, AGREES, [ATTR[:20]]), ([*STATED, "device failed"], 4))
+    for length in (0, 4, 15, 131073, 0xffffffff):
+        judge(f"a len of {length}", on_frames([], STAT, AGREES, [struct.pack("<IiQ", length, 0, 4)]), ([*STATED, "device failed", f"device failed: a frame of {length} bytes"], 4))
+    for cut, part in [(2, "2 of 4 bytes of a frame's length"), (20, f"20 of {len(ATTR)} bytes of a frame")]:
+        judge(f"a frame is cut short by the end after {cut} bytes", on_frames([], STAT, AGREES, [ATTR[:cut], CLOSE]),
+              ([*STATED, "device failed", f"device failed: the stream ended after {part}"], 4))
+        judge(f"a frame is cut short by silence after {cut} bytes", on_frames(SHORT_WAIT, STAT, AGREES, [ATTR[:cut]]),
+              ([*STATED, "device failed", f"device failed: {part} came in time"], 4))
     judge("a notification", on_frames([], STAT, AGREES, [NOTICE, ATTR]), ([*STATED, NOTIFIED, *ANSWERED], 0))
     judge("no notification: number 0 without a code", on_frames([], [*STAT, "write"], AGREES, [reply(0), ATTR]),
           ([*STATED, "written 0 2", "reply to nothing: 0", *ANSWERED], 6))
@@ -462,10 +465,12 @@ def run_waits():
             pass
 
     writes = [line for _ in range(100) for line in (f"call write 1 0 {'00' * 4096}", "read p 0")]
-    ended("a server that reads nothing", [*MOUNT, "call create /f", "read p 0", "write", *writes], reads_nothing, ["device failed"])
+    ended("a server that reads nothing", [*MOUNT, "call create /f", "read p 0", "write", *writes], reads_nothing, ["device failed: a request was not taken in time"])
     # The time may be over between two frames or in the middle of one, whose rest has come then.
     ended("a server that keeps talking", STAT, talks, [f"no reply: {ASKED}"])
-    ended("a reply of a byte a tenth of a second", STAT, dribbles, ["device failed"])
+    parts = [f"device failed: {came} of 4 bytes of a frame's length came in time" for came in range(1, 4)]
+    parts += [f"device failed: {came} of {len(ATTR)} bytes of a frame came in time" for came in range(4, len(ATTR))]
+    ended("a reply of a byte a tenth of a second", STAT, dribbles, parts)
 
 
 # --- the command line, and a socket of packets
@@ -487,9 +492,9 @@ def run_words():
     alone = "--orders goes with FILE, --number and --nth alone"
     for words, line in [([*given, "x"], alone) for given in (["--orders", "x"], ["--orders", "--calls"], ["--orders", "--beside"],
                             ["--orders", "--no-opendir"], ["--orders", "--trace"], ["--orders", "--json"], ["--orders", "--check"],
-                            ["--orders", "--capture", "y"], ["--orders", "--random"], ["--orders", "--any"], ["--orders", "--report-only"])] + [
+                            ["--orders", "--capture", "y"], ["--orders", "--random"], ["--orders", "--any"], ["--orders", "--quick"], ["--orders", "--report-only"])] + [
                         (["--number", "x"], "--number and --nth go with --orders"), (["--nth", "1", "x"], "--number and --nth go with --orders"),
-                        (["--any", "x"], "--any goes with --random"), (["--random", "--calls", "x"], "--random goes without --calls and --beside"),
+                        (["--any", "x"], "--any and --quick go with --random"), (["--quick", "x"], "--any and --quick go with --random"), (["--random", "--calls", "x"], "--random goes without --calls and --beside"),
                         (["--random", "--beside", "x"], "--random goes without --calls and --beside")]:
         run = subprocess.run([PROGRAM, "drive", *words], stdin=subprocess.DEVNULL, capture_output=True, text=True, timeout=SECONDS)
         judge(f"drive {words}", (run.returncode, run.stdout, run.stderr), (2, "", f"error: {line}\n"))
@@ -753,6 +758,10 @@ def run_random():
     judge("one seed is one run", on_server(words, [])[:2], (lines, 0))
     judge("its output runs again", on_server(["--check"], lines)[:2], ([line[2:] for line in lines if line.startswith("# ")], 0))
     judge("one seed is one run, on packets", on_packets(words), (lines, 0))
+    longer = [*words[:-1], "300"]
+    runs = [on_server([*longer, *more], [])[:2] for more in ([], ["--quick"])]
+    judge("--quick looks over the tree at the end alone", ([status for _, status in runs], len({lines.count("call list / 0") for lines, _ in runs}),
+          runs[0][0].count("call list / 0") > runs[1][0].count("call list / 0")), ([0, 0], 2, True))
     lines, status, _ = on_server(words, [], bug="reply twice")
     judge("a seed: a bug is found", (status, any(FAULTS.search(line) for line in lines)), (6, True))
 

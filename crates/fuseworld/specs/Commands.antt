@@ -66,7 +66,7 @@ serve_app minors = with_rule (with_rule (with_rule (with_rule (with_rule (with_r
 
 abbrev pub drive_app : App
 drive_app = with_rule (with_rule (with_rule (with_rule (with_rule (with_rule (with_rule (with_rule (with_rule (with_rule (with_rule
-    (with_rule (with_rule (with_rule (with_rule (with_rule (with_rule (with_rule (with_rule (new_app (codes "drive"))
+    (with_rule (with_rule (with_rule (with_rule (with_rule (with_rule (with_rule (with_rule (with_rule (new_app (codes "drive"))
     (flag (codes "calls")))
     (flag (codes "beside")))
     (flag (codes "no-opendir")))
@@ -79,6 +79,7 @@ drive_app = with_rule (with_rule (with_rule (with_rule (with_rule (with_rule (wi
     (option_or_none (codes "capture")))
     (flag (codes "random")))
     (flag (codes "any")))
+    (flag (codes "quick")))
     (number (codes "seed") 0 last_node (codes "1")))
     (number (codes "events") 0 last_node (codes "400")))
     (flag (codes "orders")))

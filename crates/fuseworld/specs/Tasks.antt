@@ -119,6 +119,7 @@ pub record AsksDrive (rows : List Row) (t : DriveTask) : Type 0 where
   pub offer : t.offer.now ≡ unwrap_or (first_of (codes "offer") rows) (codes "0")
   pub random : t.is_random ≡ is_set (codes "random") rows
   pub any : t.is_any ≡ is_set (codes "any") rows
+  pub quick : t.is_quick ≡ is_set (codes "quick") rows
   pub seed : t.seed ≡ number_of (codes "seed") 1 rows
   pub events : t.events ≡ number_of (codes "events") 400 rows
   pub reports : t.is_report_only ≡ is_set (codes "report-only") rows

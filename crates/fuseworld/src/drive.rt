@@ -31,7 +31,7 @@ use fw_expand::{ExpandedLines, expandable_script};
 use fw_json::JsonLines;
 use fw_judged::JudgedServer;
 use fw_output::{LimitedWriter, room_in_file};
-use fw_random::{Commented, RandomLines};
+use fw_random::{Choice, Commented, RandomLines};
 use fw_script::no_memory;
 use std::alloc::{AllocError, Global};
 use std::fs::File;
@@ -67,6 +67,8 @@ pub struct DriveTask<'a> {
     is_random: bool,
     /// Whether calls are chosen too that Linux would not send.
     is_any: bool,
+    /// Whether the tree is looked over at the end alone.
+    is_quick: bool,
     seed: u64,
     /// How many lines are chosen.
     events: u64,
@@ -125,8 +127,8 @@ fn with_findings<'a>(alloc: Global, command: Command<'a>) -> Result<Command<'a>,
 /// The arguments of lines that are chosen.
 fn with_draws<'a>(alloc: Global, command: Command<'a>) -> Result<Command<'a>, AllocError>
     ensures { IfOk result (λ all. (fields_of command.entry).has_globals ≡ false
-        → IsCommand (with_rule (with_rule (with_rule (with_rule (app_of command.entry) (flag (codes "random")))
-        (flag (codes "any"))) (number (codes "seed") 0 last_node (codes "1")))
+        → IsCommand (with_rule (with_rule (with_rule (with_rule (with_rule (app_of command.entry) (flag (codes "random")))
+        (flag (codes "any"))) (flag (codes "quick"))) (number (codes "seed") 0 last_node (codes "1")))
         (number (codes "events") 0 last_node (codes "400"))) all) }
 {
     let random = flag(
@@ -139,6 +141,11 @@ fn with_draws<'a>(alloc: Global, command: Command<'a>) -> Result<Command<'a>, Al
         "any",
         "Choose also what Linux would not send, as CREATE of a name that is there",
     );
+    let quick = flag(
+        alloc,
+        "quick",
+        "With --random: look over the tree at the end alone",
+    );
     let seed = number_argument(alloc, "seed", "N", "1", "The seed of --random");
     let events = number_argument(
         alloc,
@@ -147,7 +154,12 @@ fn with_draws<'a>(alloc: Global, command: Command<'a>) -> Result<Command<'a>, Al
         "400",
         "How many events --random chooses",
     );
-    command.arg(random)?.arg(any)?.arg(seed)?.arg(events)
+    command
+        .arg(random)?
+        .arg(any)?
+        .arg(quick)?
+        .arg(seed)?
+        .arg(events)
 }
 
 /// The arguments.
@@ -249,6 +261,7 @@ pub fn drive_task<'a>(matches: &ArgMatches<'a>) -> DriveTask<'a>
         offer: offer(matches),
         is_random: is_set(matches, "random"),
         is_any: is_set(matches, "any"),
+        is_quick: is_set(matches, "quick"),
         seed: number(matches, "seed", 1),
         events: number(matches, "events", 400),
         is_report_only: is_set(matches, "report-only"),
@@ -297,11 +310,7 @@ enum Lines<'a> {
     /// Standard input, a line at a time.
     Input,
     /// What a seed chooses.
-    Random {
-        seed: u64,
-        events: u64,
-        is_any: bool,
-    },
+    Random(Choice),
 }
 
 /// Runs lines in which calls may have names, and which may stand for several, on a device, each once the one before was run,
@@ -343,7 +352,7 @@ fn drive_input<D: Device, W: Write, F: Write>(
 fn drive_random<D: Device, W: Write + Drop, F: Write>(
     rt: &HostRuntime,
     task: Task<'_>,
-    drawn: (u64, u64, bool),
+    choice: Choice,
     device: &mut D,
     out: W,
     faults: &mut F,
@@ -352,9 +361,8 @@ fn drive_random<D: Device, W: Write + Drop, F: Write>(
     ensures { Contains drive_statuses result }
 {
     let alloc = rt.alloc();
-    let (seed, events, is_any) = drawn;
     let mut out = Commented::new(alloc, out);
-    let Ok(mut lines) = RandomLines::new(alloc, seed, events, !is_any) else {
+    let Ok(mut lines) = RandomLines::new(alloc, choice) else {
         return no_memory(faults);
     };
     let status = run_source(alloc, task, device, &mut lines, &mut out, faults);
@@ -387,13 +395,8 @@ fn drive_device<D: Device, W: Write + Drop>(
         }
         Lines::Short(script) => drive_short(rt, task, device, script, &mut out, &mut faults),
         Lines::Input => drive_input(rt, task, device, &mut out, &mut faults),
-        Lines::Random {
-            seed,
-            events,
-            is_any,
-        } => {
-            let drawn = (seed, events, is_any);
-            drive_random(rt, task, drawn, device, out, &mut faults, differs)
+        Lines::Random(choice) => {
+            drive_random(rt, task, choice, device, out, &mut faults, differs)
         }
     }
 }
@@ -540,7 +543,11 @@ fn drive_place(
         Ok((reader, writer)) => {
             let device = StreamDevice::of_replies(reader, writer);
             let (out, lines) = (standard_output(rt), standard_output(rt));
-            drive_printed(rt, asked, task, script, file, device, out, lines)
+            let status = drive_printed(rt, asked, task, script, file, device, out, lines);
+            if status == 4 {
+                deadline.explain();
+            }
+            status
         }
         Err(error) if error.kind() == ErrorKind::OutOfMemory => no_memory(&mut rt.stderr()),
         Err(error) => no_socket(rt, &error),
@@ -635,6 +642,19 @@ fn drive_to_file(
     }
 }
 
+/// How lines are chosen.
+fn choice_of(asked: DriveTask<'_>) -> Choice
+    ensures { (result.seed ≡ asked.entry.seed) × (result.events ≡ asked.entry.events)
+        × (result.is_any ≡ asked.entry.is_any) × (result.is_quick ≡ asked.entry.is_quick) }
+{
+    Choice {
+        seed: asked.seed,
+        events: asked.events,
+        is_any: asked.is_any,
+        is_quick: asked.is_quick,
+    }
+}
+
 /// Drives a server by the lines of a script, with a capture where one is asked for, and gives the exit status.
 fn drive_lines(rt: &HostRuntime, asked: DriveTask<'_>, task: Task<'_>, script: Lines<'_>) -> u8
     ensures { Contains drive_statuses result }
@@ -650,12 +670,7 @@ fn drive_task_of(rt: &HostRuntime, asked: DriveTask<'_>, task: Task<'_>) -> u8
     ensures { Contains drive_statuses result }
 {
     if asked.is_random {
-        let lines = Lines::Random {
-            seed: asked.seed,
-            events: asked.events,
-            is_any: asked.is_any,
-        };
-        return drive_lines(rt, asked, task, lines);
+        return drive_lines(rt, asked, task, Lines::Random(choice_of(asked)));
     }
     if asked.file == "-" && asked.socket.is_some() {
         return drive_lines(rt, asked, task, Lines::Input);
@@ -679,11 +694,25 @@ fn misfit(asked: DriveTask<'_>) -> Option<&'static str>
         Some("--number and --nth go with --orders")
     } else if asked.is_random && !matches!(asked.form, Form::Events) {
         Some("--random goes without --calls and --beside")
-    } else if asked.is_any && !asked.is_random {
-        Some("--any goes with --random")
+    } else if chooses(asked) && !asked.is_random {
+        Some("--any and --quick go with --random")
     } else {
         None
     }
+}
+
+/// Whether a word says what is printed of a run.
+fn says(asked: DriveTask<'_>) -> bool
+    ensures { result ≡ words.says asked.entry }
+{
+    asked.is_traced || asked.is_json || asked.is_checked || asked.capture.is_some()
+}
+
+/// Whether a word says which events are chosen, or when the tree is looked over.
+fn chooses(asked: DriveTask<'_>) -> bool
+    ensures { result ≡ words.chooses asked.entry }
+{
+    asked.is_any || asked.is_quick
 }
 
 /// Whether a word says how a server is driven.
@@ -693,11 +722,8 @@ fn drives(asked: DriveTask<'_>) -> bool
     asked.socket.is_some()
         || !matches!(asked.form, Form::Events)
         || !asked.opens_directories
-        || asked.is_traced
-        || asked.is_json
-        || asked.is_checked
-        || asked.capture.is_some()
-        || asked.is_any
+        || says(asked)
+        || chooses(asked)
         || asked.is_report_only
 }
 

@@ -18,6 +18,7 @@ mod serve;
 mod serve_words;
 mod sides;
 mod socket;
+mod stream_frame;
 mod timed_socket;
 mod values;
 mod version;

@@ -1,13 +1,11 @@
 //! A socket over which a reply is waited for so long, and no longer, whatever comes between.
 
+use crate::stream_frame::{Break, EAGAIN, StreamFrame};
 use std::cell::Cell;
 use std::io;
 use std::io::{Read, Write};
 use std::os::unix::net::UnixStream;
 use std::time::{Duration, Instant};
-
-/// EAGAIN, by which a reader says that the time is over.
-const EAGAIN: i32 = 11;
 
 /// The bytes of a frame's length, which are read before the rest of it.
 const LEN_BYTES: usize = 4;
@@ -23,6 +21,8 @@ pub struct Deadline<'a> {
     sent: Cell<Option<Instant>>,
     /// Whether the rest of a frame was waited for since then.
     is_over: Cell<bool>,
+    /// How far the frame came that is read.
+    frame: Cell<StreamFrame>,
 }
 
 impl<'a> Deadline<'a> {
@@ -33,13 +33,30 @@ impl<'a> Deadline<'a> {
             wait: Duration::from_millis(wait_ms),
             sent: Cell::new(Instant::now(rt).ok()),
             is_over: Cell::new(false),
+            frame: Cell::new(StreamFrame::new()),
         }
+    }
+
+    /// Bytes of a frame came.
+    fn take(&self, bytes: &[u8]) {
+        self.frame.set(self.frame.get().after(bytes));
+    }
+
+    /// A read or write gave nothing.
+    fn note(&self, broke: Break) {
+        self.frame.set(self.frame.get().broken(broke));
+    }
+
+    /// Says on standard error why the stream failed, if it did.
+    pub fn explain(&self) {
+        self.frame.get().explain(self.rt);
     }
 
     /// A reply is waited for from now on.
     fn begin(&self) {
         self.sent.set(Instant::now(self.rt).ok());
         self.is_over.set(false);
+        self.frame.set(self.frame.get().unbroken());
     }
 
     /// How long a reply is waited for still. Without a clock it is the whole time.
@@ -76,10 +93,19 @@ impl Read for TimedReader<'_> {
     fn read(&mut self, buf: &mut [u8]) -> io::Result<usize> {
         let left = self.deadline.left_for(buf.len());
         if left.is_zero() {
+            self.deadline.note(Break::Read(EAGAIN));
             return Err(io::Error::from_raw_os_error(EAGAIN));
         }
         self.stream.set_read_timeout(Some(left))?;
-        self.stream.read(buf)
+        let read = self.stream.read(buf);
+        match &read {
+            Ok(0) => self.deadline.note(Break::End),
+            Ok(count) => self.deadline.take(&buf[..*count]),
+            Err(error) => self
+                .deadline
+                .note(Break::Read(error.raw_os_error().unwrap_or(0))),
+        }
+        read
     }
 }
 
@@ -92,9 +118,14 @@ pub struct TimedWriter<'a> {
 
 impl Write for TimedWriter<'_> {
     fn write(&mut self, buf: &[u8]) -> io::Result<usize> {
-        let count = self.stream.write(buf)?;
-        self.deadline.begin();
-        Ok(count)
+        let written = self.stream.write(buf);
+        match &written {
+            Ok(_) => self.deadline.begin(),
+            Err(error) => self
+                .deadline
+                .note(Break::Write(error.raw_os_error().unwrap_or(0))),
+        }
+        written
     }
 
     fn flush(&mut self) -> io::Result<()> {

@@ -1,5 +1,8 @@
 //! A source of lines that are chosen.
 
+ghost use Rattle.std.specs.Prelude.{◌≡◌, IfOk, not};
+ghost use Rattle.fw_random.specs.Chances.{of_seed};
+
 use crate::calls::{name_count, put_close, put_name_at};
 use crate::commented::Commented;
 use crate::rounds::Rounds;
@@ -19,6 +22,19 @@ const AGAIN: u64 = 2;
 
 /// Longer than a name is valid, in milliseconds.
 const LONG: &[u8] = b"tick 90000000";
+
+/// How the lines of a run are chosen.
+#[derive(Clone, Copy, Debug, PartialEq, Eq)]
+pub struct Choice {
+    /// The seed: what is chosen goes by it, by what the kernel can do, and by what the server answered.
+    pub seed: u64,
+    /// How many lines are chosen before the end.
+    pub events: u64,
+    /// Whether calls are chosen too that Linux would not send.
+    pub is_any: bool,
+    /// Whether the tree is looked over at the end alone.
+    pub is_quick: bool,
+}
 
 /// The parts of a run.
 #[derive(Clone, Copy, Debug, PartialEq, Eq)]
@@ -54,6 +70,8 @@ pub struct RandomLines<A: Allocator + Copy> {
     events: u64,
     /// How many lines are chosen before the next look over the tree.
     unlooked: u64,
+    /// Whether the tree is looked over at the end alone.
+    is_quick: bool,
     /// How often all was forgotten.
     forgotten: u64,
     /// Whether calls run at once.
@@ -72,13 +90,18 @@ impl<A: Allocator + Copy> RandomLines<A> {
     /// # Errors
     ///
     /// Out of memory.
-    pub fn new(alloc: A, seed: u64, events: u64, is_linux: bool) -> Result<Self, NoLine> {
+    pub fn new(alloc: A, choice: Choice) -> Result<Self, NoLine>
+        ensures seed { IfOk result (λ lines. lines.rounds.chance.generator ≡ of_seed choice.seed) }
+        ensures options { IfOk result (λ lines. (lines.events ≡ choice.events) × (lines.is_quick ≡ choice.is_quick)
+            × (lines.rounds.is_linux ≡ not choice.is_any)) }
+    {
         Ok(RandomLines {
-            rounds: Rounds::new(alloc, seed, is_linux)?,
+            rounds: Rounds::new(alloc, choice.seed, !choice.is_any)?,
             part: Part::Mount,
             drawn: 0,
-            events,
+            events: choice.events,
             unlooked: LOOK,
+            is_quick: choice.is_quick,
             forgotten: 0,
             is_burst: false,
             differences: 0,
@@ -243,7 +266,7 @@ impl<A: Allocator + Copy> RandomLines<A> {
             return Ok(());
         }
         if self.rounds.plan.round.is_empty() {
-            if self.unlooked == 0 {
+            if self.unlooked == 0 && !self.is_quick {
                 self.unlooked = LOOK;
                 self.rounds.plan.begin_look(false)?;
             } else {

@@ -16,4 +16,4 @@ mod rounds;
 mod text;
 
 pub use commented::Commented;
-pub use drawn::RandomLines;
+pub use drawn::{Choice, RandomLines};

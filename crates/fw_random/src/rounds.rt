@@ -1,5 +1,8 @@
 //! What begins where nothing is under way.
 
+ghost use Rattle.std.specs.Prelude.{◌≡◌, IfOk};
+ghost use Rattle.fw_random.specs.Chances.{of_seed};
+
 use crate::beside::Beside;
 use crate::calls::{name_count, put_change, put_name, put_name_at, put_reader};
 use crate::chance::Chance;
@@ -27,7 +30,9 @@ pub(crate) struct Rounds<A: Allocator + Copy> {
 }
 
 impl<A: Allocator + Copy> Rounds<A> {
-    pub(crate) fn new(alloc: A, seed: u64, is_linux: bool) -> Result<Self, NoLine> {
+    pub(crate) fn new(alloc: A, seed: u64, is_linux: bool) -> Result<Self, NoLine>
+        ensures { IfOk result (λ rounds. (rounds.chance.generator ≡ of_seed seed) × (rounds.is_linux ≡ is_linux)) }
+    {
         Ok(Rounds {
             alloc,
             chance: Chance::new(seed),

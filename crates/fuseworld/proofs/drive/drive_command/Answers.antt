@@ -28,8 +28,8 @@ returns c =
     let found = findings.0 ∙ ap (λ (a : App). with_rule (with_rule (with_rule a (flag (codes "check")))
     (flag (codes "report-only"))) (option_or_none (codes "capture"))) all.0 in
     let draws = c.in_ok-command-2.ensures findings.1 in
-    let drawn = draws.0 ∙ ap (λ (a : App). with_rule (with_rule (with_rule (with_rule a (flag (codes "random")))
-    (flag (codes "any"))) (number (codes "seed") 0 last_node (codes "1")))
+    let drawn = draws.0 ∙ ap (λ (a : App). with_rule (with_rule (with_rule (with_rule (with_rule a (flag (codes "random")))
+    (flag (codes "any"))) (flag (codes "quick"))) (number (codes "seed") 0 last_node (codes "1")))
     (number (codes "events") 0 last_node (codes "400"))) found in
     let orders = c.in_ok-with_orders.ensures draws.1 in
     let ordered = orders.0 ∙ ap (λ (a : App). with_rule (with_rule (with_rule a (flag (codes "orders")))
