@@ -6,11 +6,12 @@
 The server is started anew for each try. It listens at the Unix stream socket whose path stands in the place of the word
 SOCK; or it has /dev/fd/N in the place of the word MOUNT, by examples/drive/launcher.c, which -l names once it is built.
 
-A fault is a line in which `drive` says what the server did wrong, or the judge of sessions does, without its numbers. Where
-there is none, it is the first answer that `fuseworld serve` gives otherwise at the same script, as `--random` compares answers;
-and where all are alike, what the judge warns of. The first fault of the whole script is kept, or the one that -f names, as
-"no reply". SCRIPT.short is the script that is left, whose calls have names where others name them, with what `drive` prints of
-it as comments; SCRIPT.short.capture what went over the device, and SCRIPT.short.svg a picture of it.
+A fault is a line in which `drive` says what the server did wrong, or that it ended or sent no whole frame, or in which the
+judge of sessions does, without its numbers. Where there is none, it is the first answer that `fuseworld serve` gives otherwise
+at the same script, as `--random` compares answers; and where all are alike, what the judge warns of. The first fault of the
+whole script is kept, or the one that -f names, as "no reply". SCRIPT.short is the script that is left, whose calls have names
+where others name them, with what `drive` prints of it as comments; SCRIPT.short.capture what went over the device, and
+SCRIPT.short.svg a picture of it.
 """
 import argparse
 import errno
@@ -23,7 +24,7 @@ import time
 from pathlib import Path
 
 WRONG = re.compile(r"(reply to nothing|second reply|no reply's head|body is not its request's|node \d+ under two generations"
-                   r"|node \d+ given for two files at once|the root given for a name|differs: |frame \d+: server: )")
+                   r"|node \d+ given for two files at once|the root given for a name|differs: |frame \d+: server: |server ended|device failed)")
 ODD = re.compile(r"frame \d+: warning: ")
 # What names a request, and what stands behind it; and the words of a call whose answer differs. Each script has others.
 ASKED = re.compile(r": [A-Z]+ \d+( of call|:|$| and ).*")
