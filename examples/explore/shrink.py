@@ -120,10 +120,10 @@ def over_launcher(asked, drive, folder):
 
 
 def said_of(answer):
-    """What answers are compared by: not by inode numbers, links and offsets, nor by the size of a directory."""
+    """What answers are compared by: not by inode numbers and offsets, nor by the size and links of a directory."""
     words = answer.split(" ")[2:]
     if len(words) == 5 and words[1] in ("dir", "file"):
-        return words[1:2] + (words[3:4] if words[1] == "file" else [])
+        return words[1:2] + (words[3:5] if words[1] == "file" else [])
     if words[1:] and all(word.count(":") == 2 for word in words[1:]):
         return sorted(re.sub(":.*:", ":", word) for word in words[1:] if not re.match(r"\.\.?:", word))
     return words
