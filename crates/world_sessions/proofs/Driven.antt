@@ -18,7 +18,7 @@ use Rattle.fk_kernel.specs.declared.pick.Pick.TheVariants.{Forgets, Interrupt, P
 use Rattle.fk_drive.specs.Driving.{Drives, alone, first_driven, nothing as undriven, next as drives_next}
 use Rattle.fk_drive.specs.KernelSteps.{ActsAlone}
 use Rattle.driven_sessions.proofs.Rules.{keeps_rules}
-use Rattle.world_sessions.specs.Crossings.{Crosses, IsReplyOf, HasCrossed, nothing, next}
+use Rattle.world_sessions.specs.WorldTransfers.{AreTransfersAt, IsReplyOf, HasTransfers, nothing, next}
 use Rattle.world_sessions.specs.KernelRules.{KernelIsDriven, KernelKeepsRules}
 use Rattle.world_sessions.proofs.Alone.{aborts_now, begins_now, drops_now, evicts_now, mounts_now, signals_now, ticks_now}
 use Rattle.world_sessions.proofs.Reading.{driven_by, forgets_are, goes_over, may_forget, may_interrupt, may_read}
@@ -62,7 +62,7 @@ module _ (w : World) (numbered : IsNumberedWhileLive w) (before : List Transfer)
   within_of after past = (or_false _ _ (or_false _ _ past).0).0
 
   by_event : (choice : ℕ → ℕ) (e : Event) (o : Outcome) (after : World) → Happened choice w e o after → (log : List Transfer)
-      → Crosses w e after log → Drives (first_driven false) (before ++ log) (driven_by after.kernel)
+      → AreTransfersAt w e after log → Drives (first_driven false) (before ++ log) (driven_by after.kernel)
   by_event choice e o after (by_mount f m v idle) log none = acts (kernel_mounted w.kernel) (mounts_now w.kernel idle) log none
   by_event choice e o after (by_call call ready room past) log none =
       acts (call_put w.kernel call) (begins_now w.kernel call ready room (within_of after past)) log none
@@ -112,16 +112,16 @@ module _ (w : World) (numbered : IsNumberedWhileLive w) (before : List Transfer)
       acts (evicted w.kernel node counted) (evicts_now w.kernel node counted live there unused) log none
   by_event choice e o after (by_abort live) log none = acts (kernel_aborted w.kernel) (aborts_now w.kernel live) log none
 
-run_numbered : (log : List Transfer) (w : World) → HasCrossed log w → IsNumberedWhileLive w
+run_numbered : (log : List Transfer) (w : World) → HasTransfers log w → IsNumberedWhileLive w
 run_numbered log w nothing = first_numbers
-run_numbered log w (next before mid runs e o after happens last crosses) =
+run_numbered log w (next before mid runs e o after happens last over) =
     numbers_stay happens.0 mid (run_numbered before mid runs) e o after happens.2
 
-run_driven : (log : List Transfer) (w : World) → HasCrossed log w → Drives (first_driven false) log (driven_by w.kernel)
+run_driven : (log : List Transfer) (w : World) → HasTransfers log w → Drives (first_driven false) log (driven_by w.kernel)
 run_driven log w nothing = undriven
-run_driven log w (next before mid runs e o after happens last crosses) =
+run_driven log w (next before mid runs e o after happens last over) =
     by_event mid (run_numbered before mid runs) before (run_driven before mid runs) happens.0 e o after
-    (happened happens.0 mid o after e happens.2) last crosses
+    (happened happens.0 mid o after e happens.2) last over
 
 pub kernel_driven : KernelIsDriven
 kernel_driven log w runs = (driven_by w.kernel, refl, run_driven log w runs)

@@ -23,7 +23,7 @@ use Rattle.fk_drive_frames.specs.OwnRequests.{first_opendir_unique}
 use Rattle.fk_drive.specs.Driving.{Driven, Drives, first_driven, idle, waits, writes, releases_none, next}
 use Rattle.fk_drive.specs.KernelSteps.{IsReplyTaken}
 use Rattle.fk_drive_theorem.proofs.RunsTally.{said_is}
-use Rattle.world_sessions.specs.Crossings.{IsReplyOf}
+use Rattle.world_sessions.specs.WorldTransfers.{IsReplyOf}
 use Rattle.world_sessions.proofs.Reading.{driven_by}
 
 judged_of : (o : Operation ℕ Opened) → IsJudged (asked_opcode (asks o))

@@ -4,14 +4,14 @@ use Rattle.fuse_device.specs.Transfers.{Transfer}
 use Rattle.fuse_spec.specs.World.Worlds.{World}
 use Rattle.fk_drive.specs.Driving.{Driven, Drives, first_driven}
 use Rattle.driven_sessions.specs.Rules.{KeepsRules}
-use Rattle.world_sessions.specs.Crossings.{HasCrossed}
+use Rattle.world_sessions.specs.WorldTransfers.{HasTransfers}
 
 -- In every run of the world, however it is spelled.
 abbrev pub KernelIsDriven : Type 0
-KernelIsDriven = (log : List Transfer) (w : World) → HasCrossed log w
+KernelIsDriven = (log : List Transfer) (w : World) → HasTransfers log w
     → (new : Driven) × (new.kernel ≡ w.kernel) × Drives (first_driven false) log new
 
 -- No session of what went over the device shows a fault of the kernel's, as `KeepsRules` says of which.
 abbrev pub KernelKeepsRules : Type 0
-KernelKeepsRules = (log : List Transfer) (w : World) → HasCrossed log w
+KernelKeepsRules = (log : List Transfer) (w : World) → HasTransfers log w
     → KeepsRules (λ (before after : Unit {0}) (other : List Transfer). other ≡ log) tt tt false

@@ -1,2 +1,2 @@
-pub mod Crossings
+pub mod WorldTransfers
 pub mod KernelRules

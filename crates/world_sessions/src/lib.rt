@@ -6,7 +6,7 @@
 
 ghost use Rattle.world_sessions.specs.KernelRules.{KernelIsDriven, KernelKeepsRules};
 
-/// What goes over the device in a run of the world drives the world's kernel, and no other.
+/// What goes over the device in a run of the world drives a kernel that ends as the world's does.
 pub fn kernel_is_driven()
     ensures { KernelIsDriven }
 {}

@@ -22,25 +22,25 @@ pub record IsReplyOf (k : Kernel) (bytes : List ℕ) (unique : ℕ) (wire : Wire
   pub known : IsOlderAgreement bytes → ⊥
 
 -- A request that goes onto its link is sent in a frame that spells it.
-abbrev pub CrossesRequest : World → World → List Transfer → Type 0
-CrossesRequest w after log = (r : Request) × (after.requests ≡ w.requests ++ r ∷ []) × (frame : List ℕ) × SaysRequest frame r
+abbrev pub IsRequestTransfer : World → World → List Transfer → Type 0
+IsRequestTransfer w after log = (r : Request) × (after.requests ≡ w.requests ++ r ∷ []) × (frame : List ℕ) × SaysRequest frame r
     × (result : WriteResult) × (log ≡ sent frame result ∷ [])
 
 -- A copy of a reply that the kernel takes is received in bytes that say it.
-abbrev pub CrossesReply : World → (place : ℕ) → List Transfer → Type 0
-CrossesReply w place log = (copy : Sent) × (slice_get w.replies place ≡ Some copy) × (bytes : List ℕ)
+abbrev pub IsReplyTransfer : World → (place : ℕ) → List Transfer → Type 0
+IsReplyTransfer w place log = (copy : Sent) × (slice_get w.replies place ≡ Some copy) × (bytes : List ℕ)
     × IsReplyOf w.kernel bytes copy.unique copy.wire × (log ≡ received bytes ∷ [])
 
--- At an event this goes over the device.
-abbrev pub Crosses : World → Event → World → List Transfer → Type 0
-Crosses w event.read_interrupt after log = CrossesRequest w after log
-Crosses w (event.read_forgets n) after log = CrossesRequest w after log
-Crosses w (event.read_pending place) after log = CrossesRequest w after log
-Crosses w (event.write place) after log = CrossesReply w place log
-Crosses w e after log = log ≡ []
+-- At an event these go over the device.
+abbrev pub AreTransfersAt : World → Event → World → List Transfer → Type 0
+AreTransfersAt w event.read_interrupt after log = IsRequestTransfer w after log
+AreTransfersAt w (event.read_forgets n) after log = IsRequestTransfer w after log
+AreTransfersAt w (event.read_pending place) after log = IsRequestTransfer w after log
+AreTransfersAt w (event.write place) after log = IsReplyTransfer w place log
+AreTransfersAt w e after log = log ≡ []
 
 -- A run of the world from its beginning, and what went over the device in it.
-pub data HasCrossed : List Transfer → World → Type 0 where
-  nothing : HasCrossed [] first_world
-  next : (before : List Transfer) (mid : World) → HasCrossed before mid → (e : Event) (o : Outcome) (after : World)
-      → Happens mid e o after → (log : List Transfer) → Crosses mid e after log → HasCrossed (before ++ log) after
+pub data HasTransfers : List Transfer → World → Type 0 where
+  nothing : HasTransfers [] first_world
+  next : (before : List Transfer) (mid : World) → HasTransfers before mid → (e : Event) (o : Outcome) (after : World)
+      → Happens mid e o after → (log : List Transfer) → AreTransfersAt mid e after log → HasTransfers (before ++ log) after
