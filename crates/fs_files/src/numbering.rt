@@ -1,11 +1,12 @@
 //! Nodes and file handles are given to the files that a reply names.
 
 ghost use Rattle.std.specs.Prelude.{◌≡◌, ◌≢◌, ◌<◌, ◌≤◌, ◌+◌, ◌*◌, ◌^◌, ◌++◌, [], ℕ, All, IsTrue, List, None, Some, cond, length, map, vec_capacity};
-ghost use Rattle.fuse_spec.specs.Server.Nodes.{IsUnheld, handle_opened};
+ghost use Rattle.fuse_spec.specs.Server.Nodes.{IsUnheld, MayName, given, handle_opened, row_of};
 ghost use Rattle.fuse_spec.specs.Values.Numbers.{counter_end, max_transfer, max_validity};
 ghost use Rattle.fuse_spec.specs.Files.Operations.{files_in_reply, files_listed, first_listed, opens_in_reply};
 ghost use Rattle.fuse_spec.specs.Calls.Paths.{is_dots};
 ghost use Rattle.fuse_spec.specs.Server.Performs.{entry_for};
+ghost use Rattle.fuse_spec.specs.Server.Server.{generation_in};
 ghost use Rattle.fs_nodes.specs.Sound.{IsSoundNodeTable};
 ghost use Rattle.fs_tree.specs.Outcomes.{is_regular};
 ghost use Rattle.fs_files.specs.Bounds.{HaveCountsUpTo, AreHeldBelow, IsThere};
@@ -166,7 +167,7 @@ impl<S: NodeStore> Files<S> {
     {
         self.lemma_sound();
         if !is_dots(name) {
-            self.give(file);
+            let _node = self.give_node(file);
         }
     }
 
@@ -208,6 +209,26 @@ impl<S: NodeStore> Files<S> {
         }
     }
 
+    /// Counts a lookup of a file, and gives its nodeid and generation.
+    #[inline(always)]
+    fn give_node(&mut self, file: u64) -> (u64, u64)
+        requires file { file < counter_end }
+        requires there { IsThere self.old.tree file }
+        requires room { 0 < self.old.node_room }
+        requires generation { IsUnheld self.old.nodes file → self.old.nodes.next_generation < counter_end }
+        requires counted { HaveCountsUpTo (2 ^ 63) self.old.nodes }
+        ensures id { MayName self.old.nodes file result.0 }
+        ensures two { 2 ≤ result.0 }
+        ensures generation { result.1 ≡ generation_in (row_of self.new.nodes result.0) }
+        ensures nodes { self.new.nodes ≡ given self.old.nodes file result.0 }
+        ensures tree { self.new.tree ≡ self.old.tree }
+        ensures handles { self.new.handles ≡ self.old.handles }
+        ensures node_room { self.old.node_room ≤ self.new.node_room + 1 }
+        ensures room { self.new.open_room ≡ self.old.open_room }
+    {
+        self.known.nodes.give(file)
+    }
+
     /// Counts a lookup of a file, and gives the entry with its node.
     #[inline(always)]
     fn give(&mut self, file: u64) -> Entry
@@ -223,7 +244,7 @@ impl<S: NodeStore> Files<S> {
         ensures node_room { self.old.node_room ≤ self.new.node_room + 1 }
         ensures room { self.new.open_room ≡ self.old.open_room }
     {
-        let (nodeid, generation) = self.known.nodes.give(file);
+        let (nodeid, generation) = self.give_node(file);
         let attributes = self.tree.getattr(file);
         Entry {
             nodeid,

@@ -4,8 +4,8 @@ use Rattle.fuse_spec.specs.Calls.Paths.{is_dots}
 use Rattle.fs_files.proofs.GivenEach.{one_generations, named_given, named_left}
 use Rattle.fs_files.proofs.files.Files.give_named.Goals as goal
 
-pub give-requires-clause-generation : goal.give-requires-clause-generation
-give-requires-clause-generation g c =
+pub give_node-node-requires-clause-generation : goal.give_node-node-requires-clause-generation
+give_node-node-requires-clause-generation g c =
     let no_dots : is_dots c.args.name.now ≡ false = search rules in
     named_left c.args.self.now.nodes c.args.file
     (is_dots c.args.name.now) no_dots c.lemma_sound.ensures c.requires.generations
@@ -13,8 +13,8 @@ give-requires-clause-generation g c =
 pub returns-then-not-is_dots-clause-generations : goal.returns-then-not-is_dots-clause-generations
 returns-then-not-is_dots-clause-generations g c files =
     let no_dots : is_dots c.args.name.now ≡ false = search rules in
-    let gives = c.give.ensures.gives in
-    one_generations c.args.self.now.nodes c.give.new.self.nodes
+    let node = c.give_node-node in
+    one_generations c.args.self.now.nodes node.new.self.nodes
     (cond (is_dots c.args.name.now) None (Some c.args.file)) files c.lemma_sound.ensures
-    (named_given c.args.self.now.nodes c.give.new.self.nodes c.args.file gives.id (is_dots c.args.name.now) no_dots
-    (gives.id, gives.may, gives.nodes_is))
+    (named_given c.args.self.now.nodes node.new.self.nodes c.args.file node.result.0 (is_dots c.args.name.now) no_dots
+    (node.result.0, node.ensures.id, node.ensures.nodes))

@@ -1,9 +1,0 @@
-use Rattle.fs_files.proofs.StaysKnown.{known_given}
-use Rattle.fs_files.proofs.files.Files.give.Goals as goal
-
-pub give-nodeid-requires-clause-generation : goal.give-nodeid-requires-clause-generation
-give-nodeid-requires-clause-generation g c = rw (← c.self.view_is, ← c.self-inside.view_is) at c.requires.generation
-
-pub invariant_of-self : goal.invariant_of-self
-invariant_of-self g c = rw c.give-nodeid.ensures.table
-    (known_given _ _ _ (rw (← c.self-inside.view_is) at c.self.invariant) c.args.file c.give-nodeid.result.0 c.requires.file (rw (← c.self.view_is, ← c.self-inside.view_is) at c.requires.there))
