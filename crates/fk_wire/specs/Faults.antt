@@ -51,14 +51,17 @@ FaultIsAt minor bytes _ = ⊥
 abbrev pub FitsFrame : RequestMessage → Type 0
 FitsFrame m = IsNodeOf (has_node (opcode_of m.content)) m.nodeid × (40 + sizes (request_body m.content) ≤ max_frame)
 
+-- A request has a spelling at a minor version.
+abbrev pub HasSpelling : Minor → RequestMessage → Type 0
+HasSpelling minor m = IsTrue (minor_knows minor (opcode_of m.content)) × FitsFrame m × HaveNames (request_body m.content)
+
 -- The first fault of a request that is to be written. Memory runs out only for one that has a spelling.
 abbrev pub RefusalIsAt : Minor → RequestMessage → WireFault → Type 0
 RefusalIsAt minor m faults.Opcode = IsTrue (minor_knows minor (opcode_of m.content)) → ⊥
 RefusalIsAt minor m faults.Body = IsTrue (minor_knows minor (opcode_of m.content)) × (FitsFrame m → ⊥)
 RefusalIsAt minor m faults.Name = IsTrue (minor_knows minor (opcode_of m.content)) × FitsFrame m
     × (HaveNames (request_body m.content) → ⊥)
-RefusalIsAt minor m faults.Memory = IsTrue (minor_knows minor (opcode_of m.content)) × FitsFrame m
-    × HaveNames (request_body m.content)
+RefusalIsAt minor m faults.Memory = HasSpelling minor m
 RefusalIsAt minor m _ = ⊥
 
 -- The fault of a request at the latest minor version.

@@ -41,7 +41,7 @@ pub use error_frame::frame_of_error;
 pub use fault::WireFault;
 pub use flags::InitFlags;
 pub use limits::MAX_FRAME;
-pub use opcode::{Minor, Opcode, is_served_opcode_at, opcode_of_code};
+pub use opcode::{Minor, Opcode, is_known, is_served_opcode_at, opcode_of_code};
 pub use pairs::Pairs;
 pub use reading::{read_request, read_request_at, read_request_head, spelled_is_decoded};
 pub use reading_reply::{
@@ -52,5 +52,5 @@ pub use records_plus::{DirentPlus, RecordsPlus};
 pub use reply::{Reply, ReplyBody, ReplyHead};
 pub use request::{Request, RequestBody};
 pub use result_frame::{read_result, write_result};
-pub use writing::{put_pair, write_request, write_request_at, written_is_spelled};
+pub use writing::{put_pair, request_size, write_request, write_request_at, written_is_spelled};
 pub use writing_reply::{write_reply, write_reply_at, written_reply_is_spelled};

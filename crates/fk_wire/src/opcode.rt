@@ -57,8 +57,8 @@ fn came_later(opcode: Opcode) -> bool
     matches!(opcode, Opcode::BatchForget | Opcode::Readdirplus)
 }
 
-/// Whether the minor version knows an opcode.
-pub(crate) fn is_known(minor: Minor, opcode: Opcode) -> bool
+/// Whether the minor version knows an opcode: 7.15 has no BATCH_FORGET and no READDIRPLUS.
+pub fn is_known(minor: Minor, opcode: Opcode) -> bool
     ensures { IsTrue result ↔ IsTrue (minor_knows minor opcode) }
 {
     match minor {
@@ -134,32 +134,6 @@ pub(crate) fn is_node_of(opcode: Opcode, nodeid: u64) -> bool
     is_about_node(opcode) || nodeid == 0
 }
 
-/// The number of an opcode.
-pub(crate) fn code(opcode: Opcode) -> u32
-    ensures { result ≡ code_of opcode }
-{
-    match opcode {
-        Opcode::Lookup => 1,
-        Opcode::Forget => 2,
-        Opcode::Getattr => 3,
-        Opcode::Mkdir => 9,
-        Opcode::Unlink => 10,
-        Opcode::Rmdir => 11,
-        Opcode::Rename => 12,
-        Opcode::Link => 13,
-        Opcode::Open => 14,
-        Opcode::Read => 15,
-        Opcode::Write => 16,
-        Opcode::Release => 18,
-        Opcode::Init => 26,
-        Opcode::Readdir => 28,
-        Opcode::Create => 35,
-        Opcode::Interrupt => 36,
-        Opcode::BatchForget => 42,
-        Opcode::Readdirplus => 44,
-    }
-}
-
 /// Where the name stands in a frame under this opcode, if it has one name and ends with it.
 pub(crate) fn name_place(opcode: Opcode) -> Option<usize>
     ensures { MatchOption result ((place : ℕ) → shape_of opcode ≢ name_after place)
@@ -205,6 +179,32 @@ pub(crate) fn reply_kind_at(minor: Minor, opcode: Opcode) -> Option<ReplyKind>
 }
 
 impl Opcode {
+    /// The opcode's number in linux/fuse.h (`enum fuse_opcode`).
+    pub fn code(self) -> u32
+        ensures { result ≡ code_of self }
+    {
+        match self {
+            Opcode::Lookup => 1,
+            Opcode::Forget => 2,
+            Opcode::Getattr => 3,
+            Opcode::Mkdir => 9,
+            Opcode::Unlink => 10,
+            Opcode::Rmdir => 11,
+            Opcode::Rename => 12,
+            Opcode::Link => 13,
+            Opcode::Open => 14,
+            Opcode::Read => 15,
+            Opcode::Write => 16,
+            Opcode::Release => 18,
+            Opcode::Init => 26,
+            Opcode::Readdir => 28,
+            Opcode::Create => 35,
+            Opcode::Interrupt => 36,
+            Opcode::BatchForget => 42,
+            Opcode::Readdirplus => 44,
+        }
+    }
+
     /// The opcode's name in capitals, as `BATCH_FORGET`.
     pub fn name(self) -> &'static str
         ensures { result.now ≡ name_of self }

@@ -1,9 +1,9 @@
 //! Requests as frames.
 
 ghost use Rattle.std.specs.Prelude.{◌≡◌, ◌≢◌, ◌≤◌, ◌+◌, ◌++◌, ◌∷◌, [], List, ℕ, OnOk};
-ghost use Rattle.std.specs.Prelude.{OnErr, IfErr, vec_len, vec_capacity};
+ghost use Rattle.std.specs.Prelude.{OnErr, IfErr, IfOk, IsOk, vec_len, vec_capacity};
 ghost use Rattle.fk_wire.specs.Fields.{u64, sizes, spellings};
-ghost use Rattle.fk_wire.specs.Faults.{RefusalIs, RefusalIsAt};
+ghost use Rattle.fk_wire.specs.Faults.{HasSpelling, RefusalIs, RefusalIsAt};
 ghost use Rattle.fk_wire.specs.Pairs.{forget_ones};
 ghost use Rattle.fk_wire.specs.Requests.{RequestMessage, Written, WrittenAt, SpellsAt, header};
 ghost use Rattle.fk_wire.specs.Requests.{request_content, request_message, request_body};
@@ -13,7 +13,7 @@ ghost use Rattle.fk_wire.specs.declared.opcode.Minor.{Minor};
 use crate::bodies::{body_size, has_names, put_body};
 use crate::fault::WireFault;
 use crate::limits::MAX_FRAME;
-use crate::opcode::{Minor, code, is_known, is_node_of, served_minor};
+use crate::opcode::{Minor, is_known, is_node_of, served_minor};
 use crate::request::Request;
 use crate::room::{put_two_u32, put_two_u64, put_u64};
 use std::alloc::Allocator;
@@ -53,6 +53,35 @@ pub fn put_pair<A: Allocator>(
     Ok(())
 }
 
+/// How long the frame of a request is, which has a spelling at the minor version.
+///
+/// # Errors
+///
+/// The first of `Opcode`, `Body` and `Name` that applies.
+pub fn request_size(minor: Minor, request: &Request<'_>) -> Result<usize, WireFault>
+    ensures size { IfOk result (λ n. n ≡ 40 + sizes (request_body (request_content request.now.body))) }
+    ensures spelled { IfOk result (λ _. HasSpelling minor (request_message request.now)) }
+    ensures some { HasSpelling minor (request_message request.now) → IsOk result }
+    ensures fault { IfErr result (RefusalIsAt minor (request_message request.now)) }
+    ensures memory { IfErr result (λ f. f ≢ MemoryFault) }
+{
+    let opcode = request.body.opcode();
+    if !is_known(minor, opcode) {
+        return Err(WireFault::Opcode);
+    }
+    if !is_node_of(opcode, request.nodeid) {
+        return Err(WireFault::Body);
+    }
+    let size = body_size(&request.body);
+    if size > MAX_FRAME - 40 {
+        return Err(WireFault::Body);
+    }
+    if !has_names(&request.body) {
+        return Err(WireFault::Name);
+    }
+    Ok(40 + size)
+}
+
 /// Appends the frame of a request, of 7.31.
 ///
 /// # Errors
@@ -90,25 +119,12 @@ pub fn write_request_at<A: Allocator>(
     ensures room { vec_len out.old + (40 + sizes (request_body
         (request_content request.now.body))) ≤ vec_capacity out.old → result ≢ Err MemoryFault }
 {
-    let opcode = request.body.opcode();
-    if !is_known(minor, opcode) {
-        return Err(WireFault::Opcode);
-    }
-    if !is_node_of(opcode, request.nodeid) {
-        return Err(WireFault::Body);
-    }
-    let size = body_size(&request.body);
-    if size > MAX_FRAME - 40 {
-        return Err(WireFault::Body);
-    }
-    if !has_names(&request.body) {
-        return Err(WireFault::Name);
-    }
-    out.reserve(40 + size).map_err(|_| WireFault::Memory)?;
+    let size = request_size(minor, request)?;
+    out.reserve(size).map_err(|_| WireFault::Memory)?;
     put_header(
         out,
-        40 + size as u32,
-        code(opcode),
+        size as u32,
+        request.body.opcode().code(),
         request.unique,
         request.nodeid,
     );

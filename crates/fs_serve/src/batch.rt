@@ -7,10 +7,7 @@ ghost use Rattle.fs_serve.specs.LongBatches.{IsLongBatch, part_of};
 
 use arrayvec::ArrayVec;
 use byteorder::{ByteOrder, LittleEndian};
-use fk_wire::read_request_head;
-
-/// The opcode of BATCH_FORGET.
-const BATCH_FORGET: u32 = 42;
+use fk_wire::{Opcode, read_request_head};
 
 /// The bytes before the pairs (`struct fuse_in_header` and `struct fuse_batch_forget_in`).
 const HEAD: usize = 48;
@@ -35,7 +32,7 @@ pub fn is_long_batch(frame: &[u8]) -> bool
 {
     match read_request_head(frame) {
         Ok((code, _unique)) => {
-            code == BATCH_FORGET
+            code == Opcode::BatchForget.code()
                 && frame.len() > LONGEST
                 && counted_len(frame) == frame.len() as u64
         }

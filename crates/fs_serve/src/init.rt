@@ -3,11 +3,9 @@
 ghost use Rattle.std.specs.Prelude.{◌≡◌, ◌↔◌, ◌<◌, IsTrue, length};
 ghost use Rattle.fs_serve.specs.LongInits.{IsLongInit, first_init_of};
 
-use fk_wire::read_request_head;
+use fk_wire::{Opcode, read_request_head};
 
-/// The opcode of INIT, and how many bytes one of 7.31 has (`struct fuse_init_in` up to 7.35, behind its header).
-const INIT: u32 = 26;
-
+/// How many bytes an INIT of 7.31 has (`struct fuse_init_in` up to 7.35, behind its header).
 const INIT_LEN: usize = 56;
 
 /// Whether a frame is an INIT with more than 7.31 has: kernels of 7.36 and later send 104 bytes.
@@ -15,7 +13,7 @@ pub fn is_long_init(frame: &[u8]) -> bool
     ensures { IsTrue result ↔ IsLongInit frame.now }
 {
     match read_request_head(frame) {
-        Ok((code, _unique)) => code == INIT && frame.len() > INIT_LEN,
+        Ok((code, _unique)) => code == Opcode::Init.code() && frame.len() > INIT_LEN,
         Err(_) => false,
     }
 }

@@ -4,7 +4,7 @@ ghost use Rattle.std.specs.Prelude.{◌≡◌, ◌≤ℤ◌, negsuc, MatchOption
 ghost use Rattle.fs_server.specs.Faults.{is_fault_answered, is_unanswered, IsFaultReply, IsAnswerable, IsErrorOf};
 
 use crate::server::{ServerFault, ServerOf};
-use fk_wire::{frame_of_error, is_served_opcode_at, read_request_head};
+use fk_wire::{Opcode, frame_of_error, is_served_opcode_at, read_request_head};
 use fs_nodes::NodeStore;
 use fuse_frames::codec_minor;
 use fuse_spec::Minor;
@@ -14,13 +14,6 @@ const ENOSYS: i32 = -38;
 
 /// EIO, of any other faulty frame, as a reply has it.
 const EIO: i32 = -5;
-
-/// The numbers of FORGET, INTERRUPT and BATCH_FORGET, to which no fault is replied.
-const FORGET: u32 = 2;
-
-const INTERRUPT: u32 = 36;
-
-const BATCH_FORGET: u32 = 42;
 
 impl<S: NodeStore> ServerOf<S> {
     /// The error reply to a frame that this server refuses with a fault, for the end of its link to send: a `struct
@@ -65,9 +58,11 @@ fn is_answered(fault: ServerFault) -> bool
     )
 }
 
-/// Whether no fault is replied to under this opcode.
+/// Whether no fault is replied to under this opcode: FORGET, INTERRUPT and BATCH_FORGET.
 fn is_unanswered(code: u32) -> bool
     ensures { result ≡ is_unanswered code }
 {
-    code == FORGET || code == INTERRUPT || code == BATCH_FORGET
+    code == Opcode::Forget.code()
+        || code == Opcode::Interrupt.code()
+        || code == Opcode::BatchForget.code()
 }

@@ -1,12 +1,11 @@
 -- What the struct of a request says. Names and data stand in them as places in bytes of the caller's.
-use Rattle.std.specs.Prelude.{◌≡◌, ◌≤◌, ◌+◌, ℕ, Bool, true, false, IsTrue, List, length}
+use Rattle.std.specs.Prelude.{◌≡◌, ◌≤◌, ◌+◌, ℕ, Bool, true, false, List, length}
 use Rattle.fk_wire.specs.declared.opcode.Minor.{Minor}
 use Rattle.fk_wire.specs.declared.opcode.Opcode.{Opcode}
 use Rattle.fk_wire.specs.declared.opcode.Opcode.TheVariants as op
 use Rattle.std.specs.Int.RustNames.{bit_and}
-use Rattle.fk_wire.specs.Faults.{FitsFrame}
-use Rattle.fk_wire.specs.Fields.{bytes_at, HaveNames, ReadsAs}
-use Rattle.fk_wire.specs.Opcodes.{code_of, minor_knows}
+use Rattle.fk_wire.specs.Fields.{bytes_at, ReadsAs}
+use Rattle.fk_wire.specs.Opcodes.{code_of}
 use Rattle.fk_wire.specs.Pairs.{forget_ones}
 use Rattle.fk_wire.specs.Requests.{RequestMessage, RequestContent, opcode_of, known_flags, request_body}
 use Rattle.fk_wire.specs.Requests.{lookup, forget, getattr, mkdir, unlink, rmdir, rename, link, opening, read, write}
@@ -114,10 +113,6 @@ counted op.Create r = named_only r
 counted op.Interrupt r = record (head_of r) { interrupted = r.interrupted }
 counted op.BatchForget r = record (head_of r) { data_offset = r.data_offset; data_length = r.data_length }
 counted op.Readdirplus r = record (head_of r) { offset = r.offset; size = r.size }
-
--- A request has a spelling at a minor version.
-abbrev pub HasSpelling : Minor → RequestMessage → Type 0
-HasSpelling v m = IsTrue (minor_knows v (opcode_of m.content)) × FitsFrame m × HaveNames (request_body m.content)
 
 -- whether a request of this opcode has one name and ends with it
 abbrev pub is_named : Opcode → Bool

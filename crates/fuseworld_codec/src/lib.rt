@@ -16,7 +16,6 @@ mod reply_checks;
 mod reply_fields;
 mod reply_message;
 mod request_bytes;
-mod request_checks;
 mod request_fields;
 mod request_message;
 mod room;

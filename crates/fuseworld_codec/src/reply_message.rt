@@ -15,11 +15,12 @@ ghost use Rattle.fuseworld_codec.specs.ReplyStructs.{attr_said, bytes_said, entr
 
 use crate::layout::{FlatAttr, FlatEntry, FlatReply};
 use crate::reply_checks::error_word;
-use crate::request_checks::is_known;
 use crate::request_message::part;
 use crate::status::{BODY, OPCODE, PLACE};
 use bitflags::Flags;
-use fk_wire::{Attr, Entry, InitFlags, Minor, Opcode, Records, RecordsPlus, Reply, ReplyBody};
+use fk_wire::{
+    Attr, Entry, InitFlags, Minor, Opcode, Records, RecordsPlus, Reply, ReplyBody, is_known,
+};
 
 fn attr_of(attr: &FlatAttr) -> Attr
     ensures { result ≡ attr_said attr.now }

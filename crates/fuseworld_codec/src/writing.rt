@@ -2,21 +2,20 @@
 
 ghost use Rattle.std.specs.Prelude.{◌≡◌, ◌≢◌, ◌≤◌, ◌<◌, ◌+◌, ◌↔◌, drop, length, take};
 ghost use Rattle.fk_wire.specs.Fields.{sizes};
-ghost use Rattle.fk_wire.specs.Faults.{RefusalIsAt};
+ghost use Rattle.fk_wire.specs.Faults.{HasSpelling, RefusalIsAt};
 ghost use Rattle.fk_wire.specs.Opcodes.{code_of};
 ghost use Rattle.fk_wire.specs.Requests.{RequestMessage, WrittenAt, opcode_of, request_body, request_content};
 ghost use Rattle.fk_wire.specs.Requests.{request_message};
 ghost use Rattle.fk_wire.specs.declared.opcode.Minor.{Minor};
 ghost use Rattle.fk_wire.specs.declared.opcode.Opcode.{Opcode};
-ghost use Rattle.fuseworld_codec.specs.RequestStructs.{HasPlaces, HasSpelling, IsRequestStruct, counted};
+ghost use Rattle.fuseworld_codec.specs.RequestStructs.{HasPlaces, IsRequestStruct, counted};
 ghost use Rattle.fuseworld_codec.specs.Status.{AnswersFault, IsNoMinor, IsNoOpcode, minor_number_of};
 
 use crate::layout::FlatRequest;
 use crate::request_bytes::put_request;
-use crate::request_checks::frame_size;
 use crate::request_message::request_of;
 use crate::status::{DONE, MINOR, ROOM, minor_of};
-use fk_wire::{Minor, Request};
+use fk_wire::{Minor, Request, request_size};
 
 /// Writes the frame of a request, of this opcode's number, at the beginning of a buffer.
 fn write_message(
@@ -41,7 +40,7 @@ fn write_message(
     ensures none { result ≢ 0 → result ≢ 9 → wanted.new ≡ 0 }
     ensures kept { result ≢ 0 → buffer.new ≡ buffer.old }
 {
-    let size = match frame_size(version, request) {
+    let size = match request_size(version, request) {
         Ok(size) => size,
         Err(fault) => {
             *wanted = 0;

@@ -28,32 +28,6 @@ fn number_of_minor(minor: Minor) -> u32
     }
 }
 
-/// The number of an opcode.
-fn number_of_opcode(opcode: Opcode) -> u32
-    ensures { result ≡ code_of opcode }
-{
-    match opcode {
-        Opcode::Lookup => 1,
-        Opcode::Forget => 2,
-        Opcode::Getattr => 3,
-        Opcode::Mkdir => 9,
-        Opcode::Unlink => 10,
-        Opcode::Rmdir => 11,
-        Opcode::Rename => 12,
-        Opcode::Link => 13,
-        Opcode::Open => 14,
-        Opcode::Read => 15,
-        Opcode::Write => 16,
-        Opcode::Release => 18,
-        Opcode::Init => 26,
-        Opcode::Readdir => 28,
-        Opcode::Create => 35,
-        Opcode::Interrupt => 36,
-        Opcode::BatchForget => 42,
-        Opcode::Readdirplus => 44,
-    }
-}
-
 /// Writes the number at the place of the opcode, `null` where the frame does not have that place.
 #[tactic(auto, unfolding(crate::specs::Vectors::opcode_word))]
 fn write_opcode_word<W: Write>(out: &mut W, frame: &[u8]) -> io::Result<()>
@@ -184,7 +158,7 @@ fn write_reply_start<W: Write>(
     ensures { OnOk result (Appends (W.contents out.old) (W.contents out.new)
         (codes "{\"direction\":\"reply\",\"opcode\":" ++ decimal (code_of opcode) ++ frame_members minor frame.now)) }
 {
-    let number = number_of_opcode(opcode);
+    let number = opcode.code();
     write!(out, "{{\"direction\":\"reply\",\"opcode\":{number}")?;
     write_frame_members(out, minor, frame)
 }

@@ -1,9 +1,8 @@
 use Rattle.std.proofs.Common.{◌≡◌, ◌≤◌, ◌+◌, length, subst, sym, take}
-use Rattle.fk_wire.specs.Faults.{RefusalIsAt}
+use Rattle.fk_wire.specs.Faults.{HasSpelling, RefusalIsAt}
 use Rattle.fk_wire.specs.Fields.{sizes}
 use Rattle.fk_wire.specs.Requests.{RequestMessage, WrittenAt, request_body, request_message}
 use Rattle.fk_wire.specs.declared.opcode.Minor.{Minor}
-use Rattle.fuseworld_codec.specs.RequestStructs.{HasSpelling}
 use Rattle.fuseworld_codec.specs.Status.{AnswersFault}
 use Rattle.fuseworld_codec.proofs.Asked.{says_one}
 use Rattle.fuseworld_codec.proofs.Minors.{one_minor_of}
