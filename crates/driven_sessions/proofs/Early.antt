@@ -26,8 +26,8 @@ use Rattle.fuse_spec.specs.Kernel.Refusals.{is_ready}
 use Rattle.fuse_spec.specs.Kernel.Replies.{ended_by, interrupt_replied, interrupt_reply_of, interrupt_reply_written, is_agreement, is_init_reply, made_ready, reply_written, request_reply_written, write_result_of}
 use Rattle.fk_kernel.specs.AwaitedReplies.{Awaited, ReadsReply, Says, awaited, awaited_by, awaited_by_interrupt, head_unique, nothing, reply_to, said, unsaid, wrong_body_to}
 use Rattle.fk_kernel.specs.Picks.{IsPicked, after_pick, pick_refusal}
-use Rattle.fk_kernel.specs.declared.pick.Pick.{Pick}
-use Rattle.fk_kernel.specs.declared.pick.Pick.TheVariants.{Interrupt, Forgets, Pending}
+use Rattle.fk_kernel.specs.declared.read.Pick.{Pick}
+use Rattle.fk_kernel.specs.declared.read.Pick.TheVariants.{Interrupt, Forgets, Pending}
 use Rattle.fk_drive.specs.KernelSteps.{ActsAlone, IsReplyTaken, mounts, begins, is_signalled, ticks, drops_name, evicts, aborts, gives_answer}
 use Rattle.fk_drive_theorem.specs.TakenOnce.{mounts_alone}
 use Rattle.fk_drive_theorem.proofs.Stable.{Stable, is_empty, same_truth}

@@ -18,8 +18,8 @@ use Rattle.fuse_spec.specs.Kernel.QueueCalls.{after_effect, after_enqueue, after
 use Rattle.fuse_spec.specs.Kernel.Signals.{signal_effect, reply_effect}
 use Rattle.fuse_device.specs.Transfers.{Transfer}
 use Rattle.fk_kernel.specs.Picks.{after_pick}
-use Rattle.fk_kernel.specs.declared.pick.Pick.{Pick}
-use Rattle.fk_kernel.specs.declared.pick.Pick.TheVariants.{Interrupt, Forgets, Pending}
+use Rattle.fk_kernel.specs.declared.read.Pick.{Pick}
+use Rattle.fk_kernel.specs.declared.read.Pick.TheVariants.{Interrupt, Forgets, Pending}
 use Rattle.fk_drive.specs.Driving.{Driven, Drives, first_driven}
 use Rattle.fk_drive_theorem.proofs.Stable.{Stable, same_number}
 use Rattle.driven_sessions.proofs.Queues.{Closed, run_holds}

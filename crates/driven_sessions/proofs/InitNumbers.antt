@@ -23,8 +23,8 @@ use Rattle.fuse_spec.specs.Values.Maps.{get}
 use Rattle.fuse_spec.specs.World.Worlds.{forget_body}
 use Rattle.fuse_device.specs.Transfers.{Transfer}
 use Rattle.fk_kernel.specs.Picks.{IsPicked, after_pick}
-use Rattle.fk_kernel.specs.declared.pick.Pick.{Pick}
-use Rattle.fk_kernel.specs.declared.pick.Pick.TheVariants.{Interrupt, Forgets, Pending}
+use Rattle.fk_kernel.specs.declared.read.Pick.{Pick}
+use Rattle.fk_kernel.specs.declared.read.Pick.TheVariants.{Interrupt, Forgets, Pending}
 use Rattle.fk_drive.specs.Driving.{Driven, Drives, first_driven}
 use Rattle.fk_drive_theorem.proofs.Stable.{Stable, same_number}
 use Rattle.driven_sessions.proofs.Frames.{is_init_body}

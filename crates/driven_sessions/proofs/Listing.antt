@@ -24,8 +24,8 @@ use Rattle.fuse_theorem.proofs.Requests.AskKept.{StillThere, asks_same, lookup_m
 use Rattle.std.proofs.lemmas.List.Elements.{All-head}
 use Rattle.fk_kernel.specs.AwaitedReplies.{head_unique}
 use Rattle.fk_kernel.specs.Picks.{IsPicked, after_pick}
-use Rattle.fk_kernel.specs.declared.pick.Pick.{Pick}
-use Rattle.fk_kernel.specs.declared.pick.Pick.TheVariants.{Interrupt, Forgets, Pending}
+use Rattle.fk_kernel.specs.declared.read.Pick.{Pick}
+use Rattle.fk_kernel.specs.declared.read.Pick.TheVariants.{Interrupt, Forgets, Pending}
 use Rattle.fk_drive_frames.specs.OwnRequests.{ListsNode, readdir, readdirplus}
 use Rattle.fk_drive.specs.KernelSteps.{ActsAlone, IsReplyTaken}
 use Rattle.fk_drive_theorem.specs.TakenOnce.{mounts_alone}

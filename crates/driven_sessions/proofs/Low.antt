@@ -10,8 +10,8 @@ use Rattle.fuse_spec.specs.Kernel.Queues.{QueueState, is_unread, pending}
 use Rattle.fuse_frames.specs.RequestTies.{SaysRequest}
 use Rattle.fuse_device.specs.Transfers.{Transfer}
 use Rattle.fk_kernel.specs.Picks.{IsPicked, after_pick}
-use Rattle.fk_kernel.specs.declared.pick.Pick.{Pick}
-use Rattle.fk_kernel.specs.declared.pick.Pick.TheVariants.{Interrupt, Forgets, Pending}
+use Rattle.fk_kernel.specs.declared.read.Pick.{Pick}
+use Rattle.fk_kernel.specs.declared.read.Pick.TheVariants.{Interrupt, Forgets, Pending}
 use Rattle.fk_drive.specs.Driving.{Driven, DriveStep, Drives, first_driven, alone, reads, answers, writes, nothing, next as behind}
 use Rattle.fk_drive.specs.KernelSteps.{ActsAlone, mounts}
 use Rattle.fk_drive_theorem.proofs.RunsTally.{run_tallied}

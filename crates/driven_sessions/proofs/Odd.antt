@@ -7,8 +7,8 @@ use Rattle.fuse_spec.specs.Kernel.Messages.{Request}
 use Rattle.fuse_spec.specs.Kernel.Queues.{is_unread, pending}
 use Rattle.fuse_frames.specs.RequestTies.{SaysRequest}
 use Rattle.fk_kernel.specs.Picks.{IsPicked}
-use Rattle.fk_kernel.specs.declared.pick.Pick.{Pick}
-use Rattle.fk_kernel.specs.declared.pick.Pick.TheVariants.{Interrupt, Forgets, Pending}
+use Rattle.fk_kernel.specs.declared.read.Pick.{Pick}
+use Rattle.fk_kernel.specs.declared.read.Pick.TheVariants.{Interrupt, Forgets, Pending}
 use Rattle.fuse_protocol.specs.declared.opcode.Opcode.{Opcode}
 use Rattle.fuse_protocol.specs.declared.opcode.Opcode.TheVariants as op
 use Rattle.fuse_protocol.specs.Pairs.{pairs_of_row}

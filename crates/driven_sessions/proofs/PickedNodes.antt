@@ -21,8 +21,8 @@ use Rattle.fuse_theorem.proofs.Calls.KnownWalks.{StateKnown}
 use Rattle.fuse_theorem.proofs.Lists.Values.{All-get}
 use Rattle.fuse_theorem.proofs.Nodes.HeldKnown.{state_names}
 use Rattle.fk_kernel.specs.Picks.{IsPicked}
-use Rattle.fk_kernel.specs.declared.pick.Pick.{Pick}
-use Rattle.fk_kernel.specs.declared.pick.Pick.TheVariants.{Interrupt, Forgets, Pending}
+use Rattle.fk_kernel.specs.declared.read.Pick.{Pick}
+use Rattle.fk_kernel.specs.declared.read.Pick.TheVariants.{Interrupt, Forgets, Pending}
 use Rattle.driven_sessions.proofs.Forgetting.{Forgetting}
 use Rattle.driven_sessions.proofs.KnownNodes.{Knowing}
 

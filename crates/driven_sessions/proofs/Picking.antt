@@ -19,8 +19,8 @@ use Rattle.fuse_theorem.proofs.Requests.QueueMoves.{ReadsNone, stays, queues, en
 use Rattle.fuse_frames.specs.RequestTies.{asked_opcode}
 use Rattle.fk_kernel.specs.AwaitedReplies.{Awaited, nothing, reply_to}
 use Rattle.fk_kernel.specs.Picks.{IsPicked, after_pick}
-use Rattle.fk_kernel.specs.declared.pick.Pick.{Pick}
-use Rattle.fk_kernel.specs.declared.pick.Pick.TheVariants.{Interrupt, Forgets, Pending}
+use Rattle.fk_kernel.specs.declared.read.Pick.{Pick}
+use Rattle.fk_kernel.specs.declared.read.Pick.TheVariants.{Interrupt, Forgets, Pending}
 use Rattle.fk_drive_theorem.proofs.OneEach.{OneEach}
 use Rattle.fk_drive_theorem.proofs.Stable.{Stable, at_most}
 use Rattle.driven_sessions.proofs.Asking.{AwaitsOnly, awaited_of, awaits, awaits_none, awaits_read, once_each, some_awaited}

@@ -21,7 +21,7 @@ use Rattle.fuse_spec.specs.Kernel.Replies.{kernel_reply, looked_up, Use, usable,
 use Rattle.fuse_device.specs.Transfers.{Transfer}
 use Rattle.fk_kernel.specs.AwaitedReplies.{head_unique}
 use Rattle.fk_kernel.specs.Picks.{after_pick}
-use Rattle.fk_kernel.specs.declared.pick.Pick.{Pick}
+use Rattle.fk_kernel.specs.declared.read.Pick.{Pick}
 use Rattle.fk_drive.specs.Driving.{Driven, DriveStep, Drives, first_driven, alone, reads, answers, writes, nothing, next as behind}
 use Rattle.fk_drive.specs.KernelSteps.{ActsAlone, IsReplyTaken, mounts, begins, is_signalled, ticks, drops_name, evicts, aborts, gives_answer}
 use Rattle.fk_drive_theorem.proofs.Stable.{Stable}

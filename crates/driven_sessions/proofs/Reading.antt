@@ -16,8 +16,8 @@ use Rattle.fuse_spec.specs.Values.Maps.{get}
 use Rattle.fuse_spec.specs.World.Worlds.{forget_body}
 use Rattle.fuse_spec.proofs.QueueCounts.{key_count}
 use Rattle.fk_kernel.specs.Picks.{IsPicked, after_pick, pick_refusal}
-use Rattle.fk_kernel.specs.declared.pick.Pick.{Pick}
-use Rattle.fk_kernel.specs.declared.pick.Pick.TheVariants.{Interrupt, Forgets, Pending}
+use Rattle.fk_kernel.specs.declared.read.Pick.{Pick}
+use Rattle.fk_kernel.specs.declared.read.Pick.TheVariants.{Interrupt, Forgets, Pending}
 use Rattle.fk_drive.specs.Driving.{Driven, picked}
 use Rattle.fk_drive_theorem.proofs.OneEach.{OneEach}
 use Rattle.fuse_sessions.specs.Sessions.{Session}

@@ -39,8 +39,8 @@ use Rattle.fuse_theorem.proofs.Requests.AskKept.{Follows, StillThere, advanced_f
 use Rattle.fuse_theorem.proofs.Requests.Numbered.{CallsNumbered}
 use Rattle.fk_kernel.specs.AwaitedReplies.{head_unique}
 use Rattle.fk_kernel.specs.Picks.{after_pick}
-use Rattle.fk_kernel.specs.declared.pick.Pick.{Pick}
-use Rattle.fk_kernel.specs.declared.pick.Pick.TheVariants.{Interrupt, Forgets, Pending}
+use Rattle.fk_kernel.specs.declared.read.Pick.{Pick}
+use Rattle.fk_kernel.specs.declared.read.Pick.TheVariants.{Interrupt, Forgets, Pending}
 use Rattle.fk_drive.specs.KernelSteps.{ActsAlone, IsReplyTaken, mounts, begins, is_signalled, ticks, drops_name, evicts, aborts, gives_answer}
 use Rattle.fk_drive.specs.Driving.{Driven, DriveStep, alone, reads, answers, writes}
 use Rattle.fuse_device.specs.Transfers.{Transfer}

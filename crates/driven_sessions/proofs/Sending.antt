@@ -8,8 +8,8 @@ use Rattle.fuse_spec.specs.Kernel.Kernel.{Kernel}
 use Rattle.fuse_spec.specs.Kernel.Messages.{Request, RequestBody, interrupt}
 use Rattle.fuse_frames.specs.RequestTies.{SaysRequest}
 use Rattle.fk_kernel.specs.Picks.{IsPicked}
-use Rattle.fk_kernel.specs.declared.pick.Pick.{Pick}
-use Rattle.fk_kernel.specs.declared.pick.Pick.TheVariants.{Interrupt, Forgets, Pending}
+use Rattle.fk_kernel.specs.declared.read.Pick.{Pick}
+use Rattle.fk_kernel.specs.declared.read.Pick.TheVariants.{Interrupt, Forgets, Pending}
 use Rattle.fk_drive.specs.Driving.{Driven, DriveStep, Drives, ReleasesBehind, SendsFrame, Turn, first_driven, alone, reads, sends, opens, is_given, is_not_known, is_refused, is_garbled, sends_opened, answers, waits, sets_aside, writes, is_released, ends, releases, releases_none, nothing, next as behind, with_result, at_end}
 use Rattle.fuse_sessions.specs.UnreadRequests.{opcode_in, unique_in}
 use Rattle.driven_sessions.specs.Transfers.{AllSent}

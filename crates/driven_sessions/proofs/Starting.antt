@@ -20,8 +20,8 @@ use Rattle.fuse_spec.specs.Kernel.Refusals.{is_ready, refusal_in, unless}
 use Rattle.fuse_spec.proofs.QueueCounts.{key_count}
 use Rattle.fk_kernel.specs.AwaitedReplies.{Awaited, awaited, awaited_by, awaited_by_interrupt, head_unique, nothing, reply_to}
 use Rattle.fk_kernel.specs.Picks.{IsPicked, after_pick}
-use Rattle.fk_kernel.specs.declared.pick.Pick.{Pick}
-use Rattle.fk_kernel.specs.declared.pick.Pick.TheVariants.{Interrupt, Forgets, Pending}
+use Rattle.fk_kernel.specs.declared.read.Pick.{Pick}
+use Rattle.fk_kernel.specs.declared.read.Pick.TheVariants.{Interrupt, Forgets, Pending}
 use Rattle.fk_drive.specs.KernelSteps.{ActsAlone, IsReplyTaken, mounts, begins, is_signalled, ticks, drops_name, evicts, aborts, gives_answer}
 use Rattle.fk_drive_theorem.specs.TakenOnce.{mounts_alone}
 use Rattle.fk_drive_theorem.proofs.OneEach.{OneEach}

@@ -20,8 +20,8 @@ use Rattle.fuse_spec.specs.Values.Numbers.{max_calls}
 use Rattle.fuse_device.specs.Transfers.{Transfer}
 use Rattle.fk_kernel.specs.Picks.{after_pick, pick_refusal}
 use Rattle.fk_kernel.specs.Refused.{begin_refusal, signal_refusal, within_counters}
-use Rattle.fk_kernel.specs.declared.pick.Pick.{Pick}
-use Rattle.fk_kernel.specs.declared.pick.Pick.TheVariants.{Interrupt, Forgets, Pending}
+use Rattle.fk_kernel.specs.declared.read.Pick.{Pick}
+use Rattle.fk_kernel.specs.declared.read.Pick.TheVariants.{Interrupt, Forgets, Pending}
 use Rattle.fk_kernel.proofs.Phases.{within_ends}
 use Rattle.fk_drive.specs.Driving.{Driven, DriveStep, Drives, first_driven, alone, reads, answers, writes, nothing, next as behind}
 use Rattle.fk_drive.specs.KernelSteps.{ActsAlone, mounts, begins, is_signalled, ticks, drops_name, evicts, aborts, gives_answer}

@@ -11,7 +11,7 @@ use Rattle.fk_wire.specs.Replies.{WrittenReply, empty_reply}
 use Rattle.fuse_device.specs.Transfers.{Transfer}
 use Rattle.fk_kernel.specs.AwaitedReplies.{HasReplyHead, IsReplyWritten, awaited, head_unique, nothing}
 use Rattle.fk_kernel.specs.Picks.{IsPicked, after_pick, pick_refusal}
-use Rattle.fk_kernel.specs.declared.pick.Pick.{Pick}
+use Rattle.fk_kernel.specs.declared.read.Pick.{Pick}
 use Rattle.fk_drive_frames.specs.declared.filling.FreeFields.{FreeFields}
 use Rattle.fk_drive.specs.Driven.{driven}
 use Rattle.fk_drive.specs.Driving.{Driven, Drives, DrivesOver, Runs, Turn, answers, idle, picked, reads, unopened, nothing as no_steps}

@@ -10,7 +10,7 @@ use Rattle.fk_wire.specs.Replies.{WrittenReply, empty_reply}
 use Rattle.fuse_frames.specs.RequestTies.{SaysRequest}
 use Rattle.fuse_frames.specs.DecodedReplies.{HasReplyHead, head_unique}
 use Rattle.fk_kernel.specs.Picks.{IsPicked, after_pick, pick_refusal}
-use Rattle.fk_kernel.specs.declared.pick.Pick.{Pick}
+use Rattle.fk_kernel.specs.declared.read.Pick.{Pick}
 use Rattle.fuse_device.specs.Transfers.{Transfer, received, sent, unsent, stopped}
 use Rattle.fuse_device.specs.declared.device.DeviceEnd.{DeviceEnd}
 use Rattle.fk_drive_frames.specs.Agreements.{IsHandedOn}

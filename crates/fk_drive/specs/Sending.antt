@@ -13,7 +13,7 @@ use Rattle.fuse_device.specs.Transfers.{Transfer}
 use Rattle.fk_kernel.specs.AwaitedReplies.{HasReplyHead}
 use Rattle.fk_kernel.specs.Picks.{IsPicked, after_pick, pick_refusal}
 use Rattle.fk_kernel.specs.Refused.{WriteRefused}
-use Rattle.fk_kernel.specs.declared.pick.Pick.{Pick}
+use Rattle.fk_kernel.specs.declared.read.Pick.{Pick}
 use Rattle.fk_drive.specs.Driving.{Driven, Runs, SendsFrame, Turn, idle, picked, unopened}
 use Rattle.fk_drive.specs.Exchanges.{Ends}
 use Rattle.fk_drive.specs.Rooms.{most_waiting}

@@ -18,8 +18,8 @@ use Rattle.fk_wire.specs.declared.opcode.Opcode.{Opcode}
 use Rattle.fuse_device.specs.Transfers.{Transfer}
 use Rattle.fk_kernel.specs.AwaitedReplies.{awaited, awaited_by, awaited_by_interrupt, head_unique, nothing as nothing_awaited, reply_to}
 use Rattle.fk_kernel.specs.Picks.{after_pick}
-use Rattle.fk_kernel.specs.declared.pick.Pick.{Pick}
-use Rattle.fk_kernel.specs.declared.pick.Pick.TheVariants.{Interrupt, Forgets, Pending}
+use Rattle.fk_kernel.specs.declared.read.Pick.{Pick}
+use Rattle.fk_kernel.specs.declared.read.Pick.TheVariants.{Interrupt, Forgets, Pending}
 use Rattle.fk_drive.specs.Driving.{Driven, DriveStep, Drives, first_driven, alone, reads, answers, writes, nothing, next}
 use Rattle.fk_drive.specs.KernelSteps.{ActsAlone, IsReplyTaken, mounts, begins, is_signalled, ticks, drops_name, evicts, aborts, gives_answer}
 use Rattle.fk_drive_theorem.specs.TakenOnce.{NoneAgain, TakesNone, TakesReplyTo, mounts_alone, mounts_at, mounts_in, request_number}

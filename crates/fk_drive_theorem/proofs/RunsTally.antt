@@ -37,8 +37,8 @@ use Rattle.fk_kernel.specs.AwaitedReplies.{Says, IsNoReply, ReadsReply, said, un
 use Rattle.fk_kernel.specs.Picks.{IsPicked, after_pick, pick_refusal}
 use Rattle.fk_kernel.specs.Refused.{begin_refusal, within_counters}
 use Rattle.fk_kernel.proofs.RepliesTaken.{opcode_in}
-use Rattle.fk_kernel.specs.declared.pick.Pick.{Pick}
-use Rattle.fk_kernel.specs.declared.pick.Pick.TheVariants.{Interrupt, Forgets, Pending}
+use Rattle.fk_kernel.specs.declared.read.Pick.{Pick}
+use Rattle.fk_kernel.specs.declared.read.Pick.TheVariants.{Interrupt, Forgets, Pending}
 use Rattle.fk_drive.specs.Driving.{Driven, DriveStep, Drives, first_driven, alone, reads, answers, writes, nothing, next}
 use Rattle.fk_drive.specs.KernelSteps.{ActsAlone, IsReplyTaken, mounts, begins, is_signalled, ticks, drops_name, evicts, aborts, gives_answer}
 use Rattle.fk_drive_theorem.specs.Tallies.{ForgottenAsGathered, Tally, no_lookups, tally_alone, tally_at, tally_of, tally_written, times_said, where_accepted}

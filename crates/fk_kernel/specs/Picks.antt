@@ -7,8 +7,8 @@ use Rattle.fuse_spec.specs.Kernel.QueueCalls.{after_read_interrupt, after_read_f
 use Rattle.fuse_spec.specs.declared.Purpose.{Purpose}
 use Rattle.fuse_spec.specs.declared.Refusal.{Refusal}
 use Rattle.fk_kernel.specs.Refused.{read_interrupt_refusal, read_forgets_refusal, read_refusal, IsInterruptFrame, IsForgetFrame, IsPendingRequest}
-use Rattle.fk_kernel.specs.declared.pick.Pick.{Pick}
-use Rattle.fk_kernel.specs.declared.pick.Pick.TheVariants.{Interrupt, Forgets, Pending}
+use Rattle.fk_kernel.specs.declared.read.Pick.{Pick}
+use Rattle.fk_kernel.specs.declared.read.Pick.TheVariants.{Interrupt, Forgets, Pending}
 
 -- why it cannot be read
 abbrev pub pick_refusal : Kernel → Pick → Option Refusal

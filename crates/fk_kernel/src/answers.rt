@@ -1,7 +1,7 @@
 //! Answers of calls.
 
-ghost use Rattle.std.specs.Prelude.{length, ◌≡◌, ◌<◌, ◌+◌, Some, None, true, find, is_some, option_map, slice_get, IfNone, IfSome};
-ghost use Rattle.fuse_spec.specs.Values.Maps.{get, remove};
+ghost use Rattle.std.specs.Prelude.{length, ◌≡◌, Some, true, find, is_some, option_map};
+ghost use Rattle.fuse_spec.specs.Values.Maps.{get};
 ghost use Rattle.fuse_spec.specs.Calls.Vfs.{answered};
 ghost use Rattle.fk_syscalls.specs.Values.{answer_of};
 ghost use Rattle.fuse_spec.specs.Kernel.Kernel.{is_for};
@@ -57,22 +57,5 @@ impl<Q: QueueTable<Purpose> + Drop, C: CountTable<Heap = Q::Heap> + Drop> Kernel
         ensures { result ≡ option_map (λ e. e.0) (find (λ e. is_for call e.1.kept) self.now.queues.requests) }
     {
         self.queues.request_for(call)
-    }
-
-    /// Hands out, once, the answer of the lowest answered call.
-    pub fn collect(&mut self) -> Option<(u64, Answer<Q::Heap>)>
-        ensures answer { option_map (λ r. (r.0, answer_of r.1)) result ≡ slice_get self.old.vfs.answers 0 }
-        ensures none { IfNone result (self.new ≡ self.old) }
-        ensures taken { IfSome result (λ r. self.new ≡ record self.old {
-          vfs = record self.old.vfs { answers = remove self.old.vfs.answers r.0 };
-        }) }
-    {
-        let Some(call) = self.answers.first_key() else {
-            return None;
-        };
-        let Some(answer) = self.answers.remove(call) else {
-            return None;
-        };
-        Some((call, answer.into_answer()))
     }
 }

@@ -1,13 +1,12 @@
 //! The kernel.
 
-ghost use Rattle.std.specs.Prelude.{◌≡◌, ◌<◌, ◌+◌, [], None, Ok, OnOk, OnErr, IfOk, IfErr, T, false, map};
-ghost use Rattle.fuse_spec.specs.Kernel.Kernel.{is_live, is_aborted, kernel_mounted};
-ghost use Rattle.fuse_spec.specs.Kernel.Refusals.{is_ready, is_busy, is_counted_out, is_kernel_past_end, or_no_memory};
+ghost use Rattle.std.specs.Prelude.{◌≡◌, ◌<◌, ◌+◌, [], IfOk, T, false, map};
+ghost use Rattle.fuse_spec.specs.Kernel.Kernel.{is_live, is_aborted};
+ghost use Rattle.fuse_spec.specs.Kernel.Refusals.{is_ready, is_counted_out, is_kernel_past_end};
 ghost use Rattle.fk_nodes.specs.LookedUp.{HaveCountsInRange};
 ghost use Rattle.std.specs.FinMap.{is_sorted};
 ghost use Rattle.std.specs.Ordering.{nat_cmp};
 ghost use Rattle.fuse_spec.specs.World.Worlds.{first_kernel};
-ghost use Rattle.fk_kernel.specs.Refused.{mount_refusal};
 ghost use Rattle.fk_kernel.specs.Soundness.{ServesCalls};
 
 use crate::phase::{is_phase_aborted, is_phase_live, is_phase_ready};
@@ -18,7 +17,7 @@ use fk_nodes::CountedNodes;
 use fk_opens::OpenFiles;
 use fk_queues::{KernelQueues, ListQueues, QueueTable, Queues};
 use fk_syscalls::CallState;
-use fuse_spec::{Minor, Opened, Phase, Purpose, Refusal};
+use fuse_spec::{Minor, Opened, Phase, Purpose};
 use fuse_tables::Table;
 use std::alloc::{AllocError, Global};
 use std::marker::Model;
@@ -141,13 +140,6 @@ impl<Q: QueueTable<Purpose> + Drop, C: CountTable<Heap = Q::Heap> + Drop> Kernel
         is_phase_live(self.phase)
     }
 
-    /// Whether a live mount has unanswered calls or open files.
-    fn is_busy(&self) -> bool
-        ensures { result ≡ is_busy self.now }
-    {
-        self.is_live() && (self.calls.len() != 0 || self.opens.len() != 0)
-    }
-
     pub(crate) fn is_ready(&self) -> bool
         ensures { result ≡ is_ready self.now.phase }
     {
@@ -158,39 +150,6 @@ impl<Q: QueueTable<Purpose> + Drop, C: CountTable<Heap = Q::Heap> + Drop> Kernel
         ensures { result ≡ is_aborted self.now.phase }
     {
         is_phase_aborted(self.phase)
-    }
-
-    /// Mounts anew: everything of the old mount is abandoned, without forgets, and INIT is queued. Until it is answered
-    /// nothing is used beyond what 7.15 has (this project's rule).
-    ///
-    /// # Errors
-    ///
-    /// `Busy` where a live mount has unanswered calls or open files; then `NoMemory`. The kernel is as before.
-    pub fn mount(&mut self) -> Result<(), Refusal>
-        ensures err { OnErr result (self.new ≡ self.old) }
-        ensures refusal { IfErr result (λ refusal. refusal ≡ or_no_memory (mount_refusal self.old)) }
-        ensures judged { OnOk result (mount_refusal self.old ≡ None) }
-        ensures mounted { OnOk result (self.new ≡ kernel_mounted self.old) }
-        ensures answers { OnOk result (self.new.vfs.answers ≡ self.old.vfs.answers) }
-    {
-        if self.is_busy() {
-            return Err(Refusal::Busy);
-        }
-        let mut queues = KernelQueues::new(self.alloc);
-        if queues.reserve(1, 0).is_err() {
-            return Err(Refusal::NoMemory);
-        }
-        let _init = queues.enqueue(Purpose::Init);
-        self.queues = queues;
-        self.calls.clear();
-        self.opens.clear();
-        self.closing.clear();
-        self.names.clear();
-        self.nodes.clear();
-        self.phase = Phase::Starting;
-        self.minor = Minor::M15;
-        self.lists_files = false;
-        Ok(())
     }
 
     /// Id, generation and lookup count of each counted node, in rising id.

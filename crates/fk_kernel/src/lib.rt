@@ -2,27 +2,30 @@
 //! written as replies.
 #![tactic(auto)]
 
-mod aborting;
+mod abort;
 mod answers;
-mod beginning;
+mod begin;
 mod cached_names;
-mod clock;
+mod collect;
 mod drop_binding;
 mod entries;
 mod evict;
+mod interrupt;
 mod kernel;
 mod listing;
+mod mount;
 mod open_files;
 mod phase;
-mod pick;
 mod queue_room;
+mod read;
 mod read_forgets;
-mod reading;
-mod refusing;
-mod replying;
-mod signals;
-mod writing;
+mod read_interrupt;
+mod read_pending;
+mod replies;
+mod tick;
+mod write;
+mod write_refusal;
 
 pub use fk_syscalls::{Answer, Call, ListedName, ListedNames, Listing};
 pub use kernel::{Kernel, KernelOf, ListKernel};
-pub use pick::Pick;
+pub use read::Pick;

@@ -2,17 +2,19 @@
 #![tactic(auto)]
 
 mod again;
-mod dropping;
-mod faults;
-mod holding;
-mod interrupting;
-mod judging;
-mod performing;
-mod releasing;
+mod connection_lost;
+mod drop_held;
+mod fault_reply;
+mod held_requests;
+mod interrupts;
+mod perform;
+mod releases;
+mod remount;
 mod replies;
+mod request_faults;
 mod server;
-mod settling;
-mod taking;
+mod settle;
+mod take;
 
 pub use fs_nodes::NodeStore;
 pub use server::{Done, ListServer, Server, ServerFault, ServerOf, Taken};

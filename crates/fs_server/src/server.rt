@@ -1,9 +1,7 @@
 //! The server: its state, and what is true of it.
 
-ghost use Rattle.std.specs.Prelude.{◌≡◌, ◌≤◌, false, IfOk};
-ghost use Rattle.fuse_spec.specs.Values.Numbers.{max_validity};
+ghost use Rattle.std.specs.Prelude.{◌≡◌, false, IfOk};
 ghost use Rattle.fuse_spec.specs.World.Worlds.{first_server};
-ghost use Rattle.fuse_spec.specs.Server.Copies.{connection_lost, remounted};
 ghost use Rattle.fs_nodes.specs.Rows.{listed_nodes};
 ghost use Rattle.fs_nodes.specs.Sound.{IsSoundNodeTable};
 ghost use Rattle.fs_files.specs.Bounds.{AreNamed};
@@ -147,36 +145,6 @@ impl<S: NodeStore> ServerOf<S> {
         ensures { result ≡ self.now.minor }
     {
         self.minor
-    }
-
-    /// The mount is aborted: kept replies and copies go, and what is held stays until the next mount. No memory is
-    /// taken.
-    pub fn connection_lost(&mut self)
-        ensures { self.new ≡ connection_lost self.old }
-    {
-        self.kept.clear();
-        self.copies.clear();
-        self.is_aborted = true;
-    }
-
-    /// A new mount: the nodes, file handles, held requests, kept replies and copies go, and so do nameless files; the
-    /// tree stays, and generations, file handles and copy numbers go on. Validities are in milliseconds; the minor is
-    /// the one in use.
-    pub fn remount(&mut self, found_ms: u64, missing_ms: u64, minor: Minor)
-        requires found { found_ms ≤ max_validity }
-        requires missing { missing_ms ≤ max_validity }
-        ensures { self.new ≡ remounted self.old (record { found_ms = found_ms; missing_ms = missing_ms }) minor }
-    {
-        self.files.clear();
-        self.held.clear();
-        self.kept.clear();
-        self.copies.clear();
-        self.is_aborted = false;
-        self.minor = minor;
-        self.validity = Validity {
-            found_ms,
-            missing_ms,
-        };
     }
 
     /// The held nodes but the root, in rising nodeid, each with its generation and its lookup count.

@@ -4,7 +4,7 @@ use Rattle.std.specs.Prelude.{All, Result, Ok, Err}
 use Rattle.std.proofs.lemmas.List.{take_more}
 use Rattle.std.proofs.lemmas.List.Elements.{All-append, All-cons, All-nil, All-same, All-weaker}
 use Rattle.fuse_device.specs.Transfers.{Transfer}
-use Rattle.fk_kernel.specs.declared.pick.Pick.{Pick}
+use Rattle.fk_kernel.specs.declared.read.Pick.{Pick}
 use Rattle.fk_drive.specs.Driving.{Driven}
 use Rattle.fw_drive.specs.DriveLines.{IsOfCalls}
 use Rattle.fw_drive.specs.Findings.{Told}

@@ -11,7 +11,7 @@ use Rattle.fuse_frames.specs.RequestTies.{IsRequestFrame, asked_opcode}
 use Rattle.fk_wire.specs.declared.opcode.Opcode.{Opcode}
 use Rattle.fk_syscalls.specs.Values.{answer_of}
 use Rattle.fk_syscalls.specs.declared.call.Answer.{Answer}
-use Rattle.fk_kernel.specs.declared.pick.Pick.{Pick}
+use Rattle.fk_kernel.specs.declared.read.Pick.{Pick}
 use Rattle.fk_drive_frames.specs.declared.filling.FreeFields.{FreeFields}
 use Rattle.fk_drive.specs.Driving.{Driven, Turn, idle}
 use Rattle.fk_drive.specs.Releasing.{EndsBehind as EndsBehindFrame}

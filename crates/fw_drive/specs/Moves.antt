@@ -6,7 +6,7 @@ use Rattle.fuse_spec.specs.Values.Maps.{remove}
 use Rattle.fuse_device.specs.Transfers.{Transfer}
 use Rattle.fk_syscalls.specs.Values.{answer_of}
 use Rattle.fk_syscalls.specs.declared.call.Answer.{Answer}
-use Rattle.fk_kernel.specs.declared.pick.Pick.{Pick}
+use Rattle.fk_kernel.specs.declared.read.Pick.{Pick}
 use Rattle.fk_drive_frames.specs.declared.filling.FreeFields.{FreeFields}
 use Rattle.fk_drive.specs.Driving.{Driven, idle}
 use Rattle.fk_drive.specs.Sending.{SendsNext}

@@ -14,7 +14,7 @@ ghost use Rattle.fw_drive.specs.Runs.{Keeps, at};
 ghost use Rattle.fw_drive.specs.Views as views;
 ghost use Rattle.fuse_spec.specs.Kernel.Kernel.{is_live as is_live_phase};
 
-use crate::acting::act;
+use crate::kernel_events::act;
 use crate::source::Standing;
 use crate::view::KernelView;
 use fk_drive::{

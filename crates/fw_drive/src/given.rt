@@ -5,7 +5,7 @@ ghost use Rattle.fw_drive.specs.LineMoves.{LinesMove, mount_lines};
 ghost use Rattle.fw_drive.specs.Runs.{Goes};
 ghost use Rattle.fw_drive.specs.Sources.{Gave, RunsFrom, RunsGiven};
 
-use crate::carrying::mount;
+use crate::carried_calls::mount;
 use crate::driver::Driver;
 use crate::form::Form;
 use crate::halt::Halt;

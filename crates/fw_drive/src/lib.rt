@@ -1,22 +1,22 @@
 //! A script that drives a server that somebody else wrote, by the proved kernel.
 #![tactic(auto)]
 
-mod acting;
 mod alike;
 mod asked;
 mod beside;
-mod carrying;
+mod carried_calls;
 mod difference_words;
 mod driver;
+mod exchange;
 mod fault;
 mod fault_words;
 mod form;
 mod given;
 mod halt;
 mod input;
+mod kernel_events;
 mod line;
 mod lines;
-mod moves;
 mod notes;
 mod parts;
 mod place;

@@ -11,11 +11,11 @@ ghost use Rattle.fw_drive.specs.Runs.{Goes, GoesAlone, IsUnprinted};
 ghost use Rattle.fw_drive.specs.declared.form.Form.{Form as FormOf};
 ghost use Rattle.fw_drive.specs.declared.line.DriveLine.TheVariants as said;
 
-use crate::carrying::{carry, mount};
+use crate::carried_calls::{carry, mount};
 use crate::driver::Driver;
+use crate::exchange::{act, receive, send, show};
 use crate::form::Form;
 use crate::line::DriveLine;
-use crate::moves::{act, receive, send, show};
 use crate::notes::Notes;
 use crate::place::{Place, Places};
 use crate::stop::{Stop, flush};

@@ -10,8 +10,8 @@ use Rattle.fuse_spec.specs.Kernel.Uniques.{interrupt_number}
 use Rattle.fuse_spec.specs.World.Events.{Outcome, is_read}
 use Rattle.fuse_spec.specs.World.Steps.{Happens, going, is_past, reading_forgets, reading_interrupt, reading_pending}
 use Rattle.fuse_spec.specs.World.Worlds.{World, world_after_read_interrupt, world_after_read_forgets, world_after_read_pending}
-use Rattle.fk_kernel.specs.declared.pick.Pick.{Pick}
-use Rattle.fk_kernel.specs.declared.pick.Pick.TheVariants as pick
+use Rattle.fk_kernel.specs.declared.read.Pick.{Pick}
+use Rattle.fk_kernel.specs.declared.read.Pick.TheVariants as pick
 use Rattle.fw_world.specs.declared.event.Outcome.{Outcome as OutcomeValue}
 use Rattle.fw_world.specs.declared.event.Outcome.TheVariants as outcome
 use Rattle.fw_world.specs.Values.{outcome_of, read_of}

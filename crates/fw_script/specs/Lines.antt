@@ -11,8 +11,8 @@ use Rattle.fw_script.specs.declared.line.LineFault.{LineFault}
 use Rattle.fw_script.specs.declared.line.LineFault.TheVariants as faults
 use Rattle.fw_world.specs.declared.event.Event.{Event}
 use Rattle.fw_world.specs.declared.event.Event.TheVariants as event
-use Rattle.fk_kernel.specs.declared.pick.Pick.{Pick}
-use Rattle.fk_kernel.specs.declared.pick.Pick.TheVariants as pick
+use Rattle.fk_kernel.specs.declared.read.Pick.{Pick}
+use Rattle.fk_kernel.specs.declared.read.Pick.TheVariants as pick
 use Rattle.fw_script.specs.declared.line.Line.{Line}
 use Rattle.fw_script.specs.declared.line.Line.TheVariants as line
 

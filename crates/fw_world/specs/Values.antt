@@ -7,8 +7,8 @@ use Rattle.fuse_spec.specs.declared.Refusal.{Refusal}
 use Rattle.fuse_spec.specs.declared.Refusal.TheVariants.{NoMemory, NoSuch, Exhausted}
 use Rattle.fuse_spec.specs.World.Events as event
 use Rattle.fuse_spec.specs.World.Records as record_of_run
-use Rattle.fk_kernel.specs.declared.pick.Pick.{Pick}
-use Rattle.fk_kernel.specs.declared.pick.Pick.TheVariants as pick
+use Rattle.fk_kernel.specs.declared.read.Pick.{Pick}
+use Rattle.fk_kernel.specs.declared.read.Pick.TheVariants as pick
 use Rattle.fk_syscalls.specs.Values.{call_of, answer_of}
 use Rattle.fs_server.specs.declared.server.ServerFault.{ServerFault}
 use Rattle.fs_server.specs.declared.server.ServerFault.TheVariants as fault

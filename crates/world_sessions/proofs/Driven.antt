@@ -14,7 +14,7 @@ use Rattle.fuse_theorem.proofs.RefusalCases.Happened.{Happened, by_mount, by_cal
 use Rattle.fuse_theorem.proofs.Refining.Evicting.{or_false}
 use Rattle.fuse_theorem.specs.Numbering.{IsNumberedWhileLive}
 use Rattle.fuse_theorem.proofs.Requests.NumbersStay.{first_numbers, numbers_stay, replying_kernel}
-use Rattle.fk_kernel.specs.declared.pick.Pick.TheVariants.{Forgets, Interrupt, Pending}
+use Rattle.fk_kernel.specs.declared.read.Pick.TheVariants.{Forgets, Interrupt, Pending}
 use Rattle.fk_drive.specs.Driving.{Drives, alone, first_driven, nothing as undriven, next as drives_next}
 use Rattle.fk_drive.specs.KernelSteps.{ActsAlone}
 use Rattle.driven_sessions.proofs.Rules.{keeps_rules}

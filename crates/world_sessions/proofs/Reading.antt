@@ -12,8 +12,8 @@ use Rattle.fuse_spec.specs.Kernel.QueueCalls.{after_read_forgets, can_read_forge
 use Rattle.fuse_spec.specs.Kernel.Refusals.{accepted, first_found, found, is_kernel_past_end, refusal_in, unless}
 use Rattle.fuse_frames.specs.RequestTies.{SaysRequest}
 use Rattle.fk_kernel.specs.Picks.{IsPicked, after_pick, pick_refusal}
-use Rattle.fk_kernel.specs.declared.pick.Pick.{Pick}
-use Rattle.fk_kernel.specs.declared.pick.Pick.TheVariants.{Forgets, Interrupt, Pending}
+use Rattle.fk_kernel.specs.declared.read.Pick.{Pick}
+use Rattle.fk_kernel.specs.declared.read.Pick.TheVariants.{Forgets, Interrupt, Pending}
 use Rattle.fk_drive.specs.Driving.{Driven, Drives, first_driven, idle, picked, reads, sends, with_result, next}
 use Rattle.fk_drive_frames.specs.OwnRequests.{first_opendir_unique}
 
