@@ -9,9 +9,10 @@ SOCK; or it has /dev/fd/N in the place of the word MOUNT, by examples/drive/laun
 A fault is a line in which `drive` says what the server did wrong, or that it ended or sent no whole frame, or in which the
 judge of sessions does, without its numbers. Where there is none, it is the first answer that `fuseworld serve` gives otherwise
 at the same script, as `--random` compares answers; and where all are alike, what the judge warns of. The first fault of the
-whole script is kept, or the one that -f names, as "no reply". SCRIPT.short is the script that is left, whose calls have names
-where others name them, with what `drive` prints of it as comments; SCRIPT.short.capture what went over the device, and
-SCRIPT.short.svg a picture of it.
+whole script is kept, or the one that -f names, as "no reply". Where the calls alone show it, carried one after another, they
+are what is left: a script for `drive --calls`. Else a call goes with its own requests and replies, or a line alone. SCRIPT.short
+is the script that is left, whose calls have names where others name them, with what `drive` prints of it as comments;
+SCRIPT.short.capture what went over the device, and SCRIPT.short.svg a picture of it.
 """
 import argparse
 import errno
@@ -58,6 +59,7 @@ def parsed():
     asked = parse(parser)
     asked.script = Path(asked.file)
     asked.is_beside = asked.is_odd = False
+    asked.form = []
     return asked
 
 
@@ -84,6 +86,13 @@ def named(lines):
                 call += ["as", f"C{words[at]}"]
             words[at] = name_in(call)
     return [" ".join(words) for words in result]
+
+
+def without_names(lines):
+    """The lines without the names of calls that no line names."""
+    said = [line.split(" ") for line in lines]
+    used = {words[at] for words in said if (at := place_of_call(words)) is not None}
+    return [" ".join(words if name_in(words) in used or name_in(words) is None else words[:-2]) for words in said]
 
 
 def is_whole(lines):
@@ -157,7 +166,7 @@ def tried(asked, script, capture=None):
 
 def driven(asked, script, capture):
     """What `drive` prints of a script."""
-    drive = [asked.program, "drive", "--check", *asked.option, *(["--capture", str(capture)] if capture else [])]
+    drive = [asked.program, "drive", "--check", *asked.form, *asked.option, *(["--capture", str(capture)] if capture else [])]
     with tempfile.TemporaryDirectory() as name:
         folder = Path(name)
         (folder / "script").write_text("".join(f"{line}\n" for line in script))
@@ -180,10 +189,96 @@ def fault_in(line, asked):
     return re.sub(r"\d+", "N", line)
 
 
-def shrunk(lines, is_wrong):
-    """The places of lines of which none can go: parts of them are left out as long as what is left is wrong."""
+def of_calls(lines, is_evicted):
+    """The lines that `drive --calls` takes, each call in one: a listing goes on by itself, and where so asked all that is dropped
+    or evicted goes at once."""
+    result = []
+    for words in (line.split(" ") for line in lines):
+        if words[0] not in ("call", "tick", "drop", "evict", "abort"):
+            continue
+        if words[1:2] in (["list"], ["listplus"]) and len(words) == 4:
+            words[3] = "all"
+        elif is_evicted and words[0] in ("drop", "evict"):
+            words = ["evict", "all"]
+        line = " ".join(words)
+        if words[-1] != "all" or result[-1:] != [line]:
+            result.append(line)
+    return result
+
+
+class Steps:
+    """The lines of a script with the call that each belongs to, so that a call can go with its own requests and replies."""
+
+    def __init__(self, lines, printed):
+        self.lines = lines
+        # The call of each line, or the line itself; and at which lines a request of the call is queued.
+        self.owners, self.queues = list(range(len(lines))), [None] * len(lines)
+        records = self.records(printed)
+        self.is_known = len(records) == len(lines)
+        if not self.is_known:
+            return
+        coming, of_request, first = 2, {}, {}
+        for place, (record, others) in enumerate(records):
+            words = record.split(" ")
+            owner = None
+            if words[0] == "mounted":
+                coming, of_request, owner = 2, {}, place
+                self.queues[place] = place
+            elif words[0] == "call" and words[1] != "0":
+                owner = first[words[1]] = place
+            elif words[0] in ("read", "written"):
+                owner = of_request.get(int(words[1]) & ~1)
+                if words[0] == "read" and words[2].endswith("FORGET"):
+                    coming += 2
+            elif words[0] == "interrupted":
+                owner = first.get(words[1])
+            if owner is None:
+                continue
+            self.owners[place] = owner
+            call = next((number for number, at in first.items() if at == owner), None)
+            is_queued = words[0] in ("mounted", "call") or words[0] == "written" and words[2] == "0" and call is not None
+            if is_queued and f"answer {call}" not in others:
+                of_request[coming], self.queues[place] = owner, owner
+                coming += 2
+
+    @staticmethod
+    def records(printed):
+        """What each line printed first, and the answers behind it."""
+        records = []
+        for line in printed:
+            words = line.split(" ")
+            if words[0] == "answer" and records:
+                records[-1][1].append(" ".join(words[:2]))
+            elif words[0] in ("mounted", "call", "read", "written", "refused", "interrupted", "dropped", "evicted", "now", "aborted"):
+                records.append((line, []))
+            elif line == "kernel" or line.startswith("kernel "):
+                records.append((line, []))
+        # The end of the script prints the nodes once more.
+        return records[:-1]
+
+    def script(self, kept):
+        """These lines, in which `read p K` names the same request as in all of them."""
+        if not self.is_known:
+            return [self.lines[place] for place in kept]
+        result, pending, left = [], [], set(kept)
+        for place in kept:
+            line = self.lines[place]
+            owner = self.owners[place]
+            if line.startswith("read p ") and owner != place:
+                if owner in pending:
+                    line = f"read p {pending.index(owner)}"
+                    pending.remove(owner)
+            if self.queues[place] is not None:
+                pending.append(self.queues[place])
+            result.append(line)
+        return result
+
+
+def shrunk(count, is_wrong, owners):
+    """The places of lines of which none can go: parts of them, and calls with all that is theirs, are left out as long as what is
+    left is wrong."""
     # Nothing behind the fault is needed.
-    without, wrong = 0, len(lines)
+    without, wrong = 0, count
     while without + 1 < wrong:
         middle = (without + wrong) // 2
         if is_wrong(list(range(middle))):
@@ -192,27 +287,54 @@ def shrunk(lines, is_wrong):
             without = middle
     kept = list(range(wrong))
 
-    def leave_out(part, step):
+    def leave_out(part, step, of):
+        """Leaves out each part of so many units that can go; lines are of the unit that is their owner."""
         nonlocal kept
         start = 0
-        while start < len(kept):
-            rest = kept[:start] + kept[start + part:]
+        while start < len(units := sorted({of[place] for place in kept})):
+            gone = set(units[start:start + part])
+            rest = [place for place in kept if of[place] not in gone]
             if rest and is_wrong(rest):
                 kept = rest
             else:
                 start += step
 
-    part = len(kept) // 2
+    part = len({owners[place] for place in kept}) // 2
     while part > 8:
-        leave_out(part, part)
+        leave_out(part, part, owners)
         part //= 2
+    alone = list(range(count))
     while True:
         before = len(kept)
-        # What a call takes are some lines that go together or not at all.
         for part in (8, 6, 4, 3, 2, 1):
-            leave_out(part, 1)
+            leave_out(part, 1, owners)
+        # What a call takes are some lines that go together or not at all.
+        for part in (4, 3, 2, 1):
+            leave_out(part, 1, alone)
         if len(kept) == before:
             return kept
+
+
+def shortest(asked, lines, fault):
+    """The script that is left, whose form `asked` has from then on, and how many tries it took."""
+    tries = 0
+
+    def is_faulty(script):
+        nonlocal tries
+        if not script or not is_whole(script):
+            return False
+        tries += 1
+        return any(fault_in(line, asked) == fault for line in tried(asked, script).splitlines())
+
+    for is_evicted in (True, False):
+        script, asked.form = of_calls(lines, is_evicted), ["--calls"]
+        if is_faulty(script):
+            places = shrunk(len(script), lambda kept: is_faulty([script[place] for place in kept]), list(range(len(script))))
+            return [script[place] for place in places], tries
+    asked.form = []
+    steps = Steps(lines, driven(asked, lines, None).splitlines())
+    places = shrunk(len(lines), lambda kept: is_faulty(steps.script(kept)), steps.owners)
+    return steps.script(places), tries
 
 
 def main():
@@ -224,22 +346,13 @@ def main():
             break
     else:
         sys.exit("the server does nothing wrong at this script")
-    fault = fault_in(said[0], asked)
-    tries = 0
-
-    def is_wrong(kept):
-        nonlocal tries
-        script = [lines[place] for place in kept]
-        if not is_whole(script):
-            return False
-        tries += 1
-        return any(fault_in(line, asked) == fault for line in tried(asked, script).splitlines())
-
-    script = [lines[place] for place in shrunk(lines, is_wrong)]
+    script, tries = shortest(asked, lines, fault_in(said[0], asked))
+    script = without_names(script)
     short = Path(f"{asked.script}.short")
     capture = Path(f"{short}.capture")
     words = tried(asked, script, capture)
-    short.write_text("".join([*(f"{line}\n" for line in script), *(f"# {line}\n" for line in words.splitlines())]))
+    run = " ".join(["drive", "--check", *asked.form, *asked.option])
+    short.write_text("".join([f"# {run}\n", *(f"{line}\n" for line in script), *(f"# {line}\n" for line in words.splitlines())]))
     checked = subprocess.run([asked.program, "check", str(capture)], capture_output=True, text=True).stdout
     found = re.search(r"^line (\d+): server", checked, re.M)
     around = found[1] if found else str(len(capture.read_text().splitlines()))

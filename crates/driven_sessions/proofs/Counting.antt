@@ -29,7 +29,8 @@ use Rattle.fk_wire.specs.declared.opcode.Opcode.TheVariants as op
 use Rattle.fk_wire.specs.Opcodes.{latest_minor}
 use Rattle.fk_wire.specs.Replies.{empty_reply, kind_of_content, reply_kind}
 use Rattle.fk_kernel.specs.AwaitedReplies.{Awaited, Says, awaited, awaited_by, awaited_by_interrupt, head_unique, reply_to, nothing as none_awaited}
-use Rattle.fk_drive_frames.specs.Agreements.{IsHandedOn, IsOlderAgreement, raised}
+use Rattle.fk_drive_frames.specs.Agreements.{IsHandedOn, IsOlderAgreement, agreement_on, raised}
+use Rattle.fk_drive_frames.proofs.Agreements.{by_raised}
 use Rattle.fk_drive_frames.specs.OwnRequests.{GivesError}
 use Rattle.fk_drive.specs.Driving.{Driven, DriveStep, ReleasesBehind, SendsFrame, Turn, unopened, alone, reads, sends, opens, is_given, is_not_known, is_refused, is_garbled, sends_opened, answers, waits, sets_aside, writes, is_released, ends, releases, releases_none, with_result, at_end}
 use Rattle.fk_drive.specs.KernelSteps.{ActsAlone, IsReplyTaken, mounts, aborts}
@@ -179,16 +180,23 @@ error_failing frame unique (pos n) gives = absurd (by n (omega (arith, ints, goo
 
 -- What is handed on for an older agreement is short.
 raised_short : (frame handed : List ℕ) → IsOlderAgreement frame → handed ≡ raised frame → length handed ≤ 80
-raised_short frame handed older same = by older
+raised_short frame handed older same =
+    subst (λ (l : List ℕ). length l ≤ 80) (sym same)
+    (by_raised (λ l. length l ≤ 80) frame (short 15 40 (omega arith) (by older)) (short 31 80 (omega arith) (by older)))
   where
-    long : length handed ≡ length frame + (80 - length frame)
-    long = ap (λ (l : List ℕ). length l) same ∙ length-set (set (frame ++ replicate (80 - length frame) 0) 0 80) 20 31
-        ∙ length-set (frame ++ replicate (80 - length frame) 0) 0 80 ∙ length-append frame (replicate (80 - length frame) 0)
-        ∙ ap (λ (n : ℕ). length frame + n) (length-replicate (80 - length frame) 0)
+    short : (minor size : ℕ) → size ≤ 80 → length frame ≤ 80 → length (agreement_on minor size frame) ≤ 80
+    short minor size most whole = omega (arith, long, most, whole)
+      where
+        long : length (agreement_on minor size frame) ≡ length frame + (size - length frame)
+        long = length-set (set (frame ++ replicate (size - length frame) 0) 0 size) 20 minor
+            ∙ length-set (frame ++ replicate (size - length frame) 0) 0 size
+            ∙ length-append frame (replicate (size - length frame) 0)
+            ∙ ap (λ (n : ℕ). length frame + n) (length-replicate (size - length frame) 0)
 
-    by : IsOlderAgreement frame → length handed ≤ 80
-    by (inl is) = let whole = is.whole in omega (arith, long, whole)
-    by (inr is) = let whole = is.whole in omega (arith, long, whole)
+    by : IsOlderAgreement frame → length frame ≤ 80
+    by (inl is) = let whole = is.whole in omega (arith, whole)
+    by (inr (inl is)) = let whole = is.whole in omega (arith, whole)
+    by (inr (inr is)) = let whole = is.whole in omega (arith, whole)
 
 abbrev opcode_of_awaited : Awaited → Opcode
 opcode_of_awaited none_awaited = op.Init

@@ -19,7 +19,8 @@ use Rattle.fuse_theorem.specs.KnownNodes.{IsKnown}
 use Rattle.fk_wire.specs.Replies.{IsErrorNumber, ReplyMessage, WrittenReply, empty_reply, reply_fields}
 use Rattle.fk_wire.proofs.Frames.{reads_back}
 use Rattle.fk_kernel.specs.AwaitedReplies.{HasReplyHead, head_unique}
-use Rattle.fk_drive_frames.specs.Agreements.{IsAgreement, IsHandedOn, IsOlderAgreement, raised}
+use Rattle.fk_drive_frames.specs.Agreements.{IsAgreement, IsHandedOn, IsOlderAgreement, agreement_on, raised}
+use Rattle.fk_drive_frames.proofs.Agreements.{by_raised}
 use Rattle.fk_drive.specs.Driving.{Driven, DriveStep, ReleasesBehind, Turn, idle, picked, opening, opened, unopened, releasing, alone, reads, sends, opens, is_given, is_not_known, is_refused, is_garbled, sends_opened, answers, waits, sets_aside, writes, is_released, ends, releases, releases_none}
 use Rattle.fk_drive.specs.KernelSteps.{ActsAlone, IsReplyTaken, mounts}
 use Rattle.fk_drive_theorem.specs.TakenOnce.{mounts_alone, mounts_at}
@@ -113,24 +114,30 @@ none_listed (e ∷ before) d after same = cc same
 
 -- ---- an agreement that is handed on
 
-raised_unique : (frame : List ℕ) → 16 ≤ length frame → number_at 8 8 (raised frame) ≡ number_at 8 8 frame
+agreement_unique : (minor size : ℕ) (frame : List ℕ) → 16 ≤ length frame
+    → number_at 8 8 (agreement_on minor size frame) ≡ number_at 8 8 frame
 unfolding number_at
-raised_unique frame long =
+agreement_unique minor size frame long =
     let h : 0 + 8 ≤ 8 = omega arith in
-    let whole : List ℕ = frame ++ replicate (80 - length frame) 0 in
-    let one : drop 8 (raised frame) ≡ set (drop 8 (set whole 0 80)) 12 31 = drop-set-add 8 (set whole 0 80) 12 31 in
-    let two : drop 8 (set whole 0 80) ≡ drop 8 whole = drop-set-lt 8 whole 0 80 (omega arith) in
-    let three : drop 8 whole ≡ drop 8 frame ++ replicate (80 - length frame) 0 =
-    drop-append-le 8 frame (replicate (80 - length frame) 0) (omega (arith, long)) in
-    let short : take 8 (drop 8 (raised frame)) ≡ take 8 (drop 8 frame) =
-    ap (take 8) one ∙ take-set-le 8 (drop 8 (set whole 0 80)) 12 31 (omega arith) ∙ ap (take 8) (two ∙ three)
-    ∙ take-append-le 8 (drop 8 frame) (replicate (80 - length frame) 0) (omega (arith, long, length-drop 8 frame)) in
-    sym (little_from-take 0 8 8 (drop 8 (raised frame)) h) ∙ ap (little_from 0 8) short ∙ little_from-take 0 8 8 (drop 8 frame) h
+    let whole : List ℕ = frame ++ replicate (size - length frame) 0 in
+    let one : drop 8 (agreement_on minor size frame) ≡ set (drop 8 (set whole 0 size)) 12 minor = drop-set-add 8 (set whole 0 size) 12 minor in
+    let two : drop 8 (set whole 0 size) ≡ drop 8 whole = drop-set-lt 8 whole 0 size (omega arith) in
+    let three : drop 8 whole ≡ drop 8 frame ++ replicate (size - length frame) 0 =
+    drop-append-le 8 frame (replicate (size - length frame) 0) (omega (arith, long)) in
+    let short : take 8 (drop 8 (agreement_on minor size frame)) ≡ take 8 (drop 8 frame) =
+    ap (take 8) one ∙ take-set-le 8 (drop 8 (set whole 0 size)) 12 minor (omega arith) ∙ ap (take 8) (two ∙ three)
+    ∙ take-append-le 8 (drop 8 frame) (replicate (size - length frame) 0) (omega (arith, long, length-drop 8 frame)) in
+    sym (little_from-take 0 8 8 (drop 8 (agreement_on minor size frame)) h) ∙ ap (little_from 0 8) short ∙ little_from-take 0 8 8 (drop 8 frame) h
+
+raised_unique : (frame : List ℕ) → 16 ≤ length frame → number_at 8 8 (raised frame) ≡ number_at 8 8 frame
+raised_unique frame long = by_raised (λ l. number_at 8 8 l ≡ number_at 8 8 frame) frame (agreement_unique 15 40 frame long)
+    (agreement_unique 31 80 frame long)
 
 module _ (frame handed : List ℕ) where
   long_of : IsOlderAgreement frame → 16 ≤ length frame
   long_of (inl is) = let whole = is.whole in omega (arith, whole)
-  long_of (inr is) = let whole = is.whole in omega (arith, whole)
+  long_of (inr (inl is)) = let whole = is.whole in omega (arith, whole)
+  long_of (inr (inr is)) = let whole = is.whole in omega (arith, whole)
 
   older_head : (size from to : ℕ) → 16 ≤ size → IsAgreement size from to frame → HasReplyHead frame
   older_head size from to least is =
@@ -141,7 +148,8 @@ module _ (frame handed : List ℕ) where
 
   head_of : IsOlderAgreement frame → HasReplyHead frame
   head_of (inl is) = older_head 80 23 30 (omega arith) is
-  head_of (inr is) = older_head 40 16 22 (omega arith) is
+  head_of (inr (inl is)) = older_head 40 16 22 (omega arith) is
+  head_of (inr (inr is)) = older_head 40 12 14 (omega arith) is
 
   handed_unique : IsHandedOn frame handed → head_unique handed ≡ head_unique frame
   handed_unique (inl (older, same)) = ap (number_at 8 8) same ∙ raised_unique frame (long_of older)

@@ -33,7 +33,7 @@ use Rattle.fuse_sessions.specs.Frames.{IsNotified, IsReplyBy, IsReplyOf, IsReply
 use Rattle.fuse_sessions.specs.Numbers.{is_agreement as agrees}
 use Rattle.fuse_sessions.specs.Sessions.{Session}
 use Rattle.fuse_sessions.specs.Waiting.{waits}
-use Rattle.fk_drive_frames.specs.Agreements.{IsHandedOn, IsOlderAgreement}
+use Rattle.fk_drive_frames.specs.Agreements.{IsAgreement, IsHandedOn, IsOlderAgreement}
 use Rattle.driven_sessions.proofs.Early.{Agrees}
 use Rattle.driven_sessions.proofs.Unagreed.{agrees_last, is_init}
 
@@ -66,6 +66,16 @@ spelled_init frame wire says agrees under =
     none (pos n) good word same = omega (arith, ints, word, good.0)
     none (negsuc n) good word same = absurd (false≢true (ap is_agreement same ∙ agrees))
 
+short_init : {from to : ℕ} (frame : List ℕ) → IsAgreement 40 from to frame → IsInitReply frame
+short_init frame is =
+    let long = is.whole in
+    let stated = is.stated in record {
+      whole = (omega (arith, long), omega (arith, long), stated ∙ sym long);
+      succeeds = is.succeeds;
+      size = inr (inl (omega (arith, long)));
+      under = is.of_init;
+    }
+
 -- An older agreement is one too.
 older_init : (frame : List ℕ) → IsOlderAgreement frame → IsInitReply frame
 older_init frame (inl is) =
@@ -76,14 +86,8 @@ older_init frame (inl is) =
       size = inr (inr (omega (arith, long)));
       under = is.of_init;
     }
-older_init frame (inr is) =
-    let long = is.whole in
-    let stated = is.stated in record {
-      whole = (omega (arith, long), omega (arith, long), stated ∙ sym long);
-      succeeds = is.succeeds;
-      size = inr (inl (omega (arith, long)));
-      under = is.of_init;
-    }
+older_init frame (inr (inl is)) = short_init frame is
+older_init frame (inr (inr is)) = short_init frame is
 
 -- What is handed to the kernel of a frame agrees.
 abbrev pub AgreesFrame : List ℕ → Type 0

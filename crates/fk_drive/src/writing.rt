@@ -19,7 +19,7 @@ use crate::end::DriveEnd;
 use crate::noted::Notes;
 use crate::receiving::receive_next;
 use crate::releasing::release;
-use fk_drive_frames::{is_older_agreement, raised_of};
+use fk_drive_frames::{is_before_15, is_older_agreement, raised_to_15, raised_to_31};
 use fk_kernel::KernelOf;
 use fk_lookup_count::CountTable;
 use fk_queues::QueueTable;
@@ -32,7 +32,7 @@ use std::alloc::Allocator;
 pub struct Written<A: Allocator> {
     /// The frame, as it was received.
     pub frame: Vec<u8, A>,
-    /// Whether it agreed on 7.23 to 7.30, and was handed on as 7.31.
+    /// Whether it agreed on 7.12 to 7.14 or 7.16 to 7.30, and was handed on as 7.15 or 7.31.
     pub is_raised: bool,
     /// What the kernel said.
     pub result: WriteResult,
@@ -40,7 +40,7 @@ pub struct Written<A: Allocator> {
     pub end: Option<DriveEnd>,
 }
 
-/// Writes a frame to the kernel: an older agreement as one on 7.31, and any other as it is.
+/// Writes a frame to the kernel: an older agreement as one on 7.15 or 7.31, and any other as it is.
 fn hand_on<Q: QueueTable<Purpose> + Drop, C: CountTable<Heap = Q::Heap> + Drop>(
     kernel: &mut KernelOf<Q, C>,
     frame: &[u8],
@@ -51,7 +51,11 @@ fn hand_on<Q: QueueTable<Purpose> + Drop, C: CountTable<Heap = Q::Heap> + Drop>(
     ensures refused { IfErr result (IsWriteRefused kernel.old frame.now) }
 {
     if is_older_agreement(frame) {
-        let written = kernel.write(&raised_of(frame));
+        let written = if is_before_15(frame) {
+            kernel.write(&raised_to_15(frame))
+        } else {
+            kernel.write(&raised_to_31(frame))
+        };
         kernel.lemma_in_range();
         return written;
     }

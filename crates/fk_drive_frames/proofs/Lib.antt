@@ -1,3 +1,4 @@
+pub mod Agreements
 pub mod OneField
 pub mod Filled
 pub mod Puts

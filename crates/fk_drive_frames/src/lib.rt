@@ -8,7 +8,7 @@ mod filling;
 mod opendir_reply;
 mod own_requests;
 
-pub use agreement::{is_older_agreement, raised_of};
+pub use agreement::{is_before_15, is_older_agreement, raised_to_15, raised_to_31};
 pub use aside::{OtherFrame, other_frame_in};
 pub use filling::{FreeFields, fill, fill_handle};
 pub use opendir_reply::{

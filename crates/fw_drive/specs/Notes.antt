@@ -1,5 +1,5 @@
 -- What is printed beside what the moves of a run come to.
-use Rattle.std.specs.Prelude.{◌++◌, [], ℕ, List, Option, Some, None, codes, decimal, flat_map}
+use Rattle.std.specs.Prelude.{◌++◌, [], ℕ, List, Option, Some, None, codes, decimal, flat_map, if◌then◌else◌, nat_lt}
 use Rattle.fk_syscalls.specs.declared.call.Answer.{Answer}
 use Rattle.fk_syscalls.specs.declared.call.Answer.TheVariants as answers
 use Rattle.frame_words.specs.Errors.{error_name}
@@ -49,7 +49,8 @@ difference_text call words line answer here =
 abbrev pub note_text : {A : Type 0} → Note A → List ℕ
 note_text (wrong f) = fault_words f ++ codes "\n"
 note_text (notification code len) = codes "notification " ++ decimal code ++ codes " " ++ decimal len ++ codes "\n"
-note_text (raised minor) = codes "7." ++ decimal minor ++ codes " taken as 7.31\n"
+note_text (raised minor) = codes "7." ++ decimal minor
+    ++ codes (if nat_lt minor 15 then " taken as 7.15\n" else " taken as 7.31\n")
 note_text (differs call words line answer here) = difference_text call words line (answer_said answer) (answer_said here)
 note_text (compared answers differences) = codes "answers " ++ decimal answers ++ codes " differ " ++ decimal differences
     ++ codes "\n"

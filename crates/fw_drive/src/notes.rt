@@ -225,7 +225,7 @@ impl<T: Tables> Notes<T> {
         }
     }
 
-    /// Prints that an older agreement was handed on as one on 7.31, if one was.
+    /// Prints that an older agreement was handed on as one on 7.15 or 7.31, if one was.
     fn note_raised<W: Write>(written: &Written<T::Heap>, out: &mut W) -> Result<(), Stop>
         ensures printed { (said : List (Note T.Heap)) × Gets result (W.contents out.old) (W.contents out.new) (notes_text said)
             × (is_any_wrong said ≡ false) }

@@ -111,7 +111,7 @@ pub(crate) fn print_between<W: Write>(
     write_text(out, after)
 }
 
-/// Prints that an older agreement was handed on as one on 7.31.
+/// Prints that an older agreement was handed on as one on 7.15 or 7.31.
 pub(crate) fn print_raised<A: Allocator, W: Write>(
     out: &mut W,
     minor: u8,
@@ -119,7 +119,12 @@ pub(crate) fn print_raised<A: Allocator, W: Write>(
     ensures ok { OnOk result (Appends (W.contents out.old) (W.contents out.new) (note_text {A = A} (raised minor))) }
     ensures refused { OnErr result (AppendsSome (W.contents out.old) (W.contents out.new) (note_text {A = A} (raised minor))) }
 {
-    print_between(out, b"7.", u64::from(minor), b" taken as 7.31\n")
+    let after: &[u8] = if minor < 15 {
+        b" taken as 7.15\n"
+    } else {
+        b" taken as 7.31\n"
+    };
+    print_between(out, b"7.", u64::from(minor), after)
 }
 
 /// Prints words and a number, other words and a number, and a line feed.
