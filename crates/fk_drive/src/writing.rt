@@ -3,6 +3,8 @@
 ghost use Rattle.std.specs.Prelude.{◌≡◌, ◌<◌, ℕ, List, IfErr, IfOk, OnErr, OnOk, vec_len};
 ghost use Rattle.fuse_spec.specs.Kernel.Kernel.{Kernel as KernelState};
 ghost use Rattle.fk_drive_frames.specs.Agreements.{IsHandedOn};
+ghost use Rattle.fk_kernel.specs.AwaitedReplies.{HasReplyHead};
+ghost use Rattle.fk_kernel.specs.Refused.{WriteRefused};
 ghost use Rattle.fuse_device.specs.Transfers.{Transfer};
 ghost use Rattle.fk_drive.specs.Driven.{driven};
 ghost use Rattle.fk_drive.specs.Driving.{DrivesOver, Runs, Turn, idle};
@@ -40,6 +42,20 @@ pub struct Written<A: Allocator> {
     pub end: Option<DriveEnd>,
 }
 
+/// Writes bytes to the kernel.
+fn take_reply<Q: QueueTable<Purpose> + Drop, C: CountTable<Heap = Q::Heap> + Drop>(
+    kernel: &mut KernelOf<Q, C>,
+    bytes: &[u8],
+) -> Result<WriteResult, Refusal>
+    ensures ok { IfOk result (λ written. IsReplyTaken kernel.old bytes.now written kernel.new) }
+    ensures err { OnErr result (kernel.new ≡ kernel.old) }
+    ensures refused { IfErr result (λ refusal. HasReplyHead bytes.now → WriteRefused kernel.old bytes.now refusal) }
+{
+    let written = kernel.write(bytes);
+    kernel.lemma_in_range();
+    written
+}
+
 /// Writes a frame to the kernel: an older agreement as one on 7.15 or 7.31, and any other as it is.
 fn hand_on<Q: QueueTable<Purpose> + Drop, C: CountTable<Heap = Q::Heap> + Drop>(
     kernel: &mut KernelOf<Q, C>,
@@ -50,18 +66,13 @@ fn hand_on<Q: QueueTable<Purpose> + Drop, C: CountTable<Heap = Q::Heap> + Drop>(
     ensures err { OnErr result (kernel.new ≡ kernel.old) }
     ensures refused { IfErr result (IsWriteRefused kernel.old frame.now) }
 {
-    if is_older_agreement(frame) {
-        let written = if is_before_15(frame) {
-            kernel.write(&raised_to_15(frame))
-        } else {
-            kernel.write(&raised_to_31(frame))
-        };
-        kernel.lemma_in_range();
-        return written;
+    if !is_older_agreement(frame) {
+        return take_reply(kernel, frame);
     }
-    let written = kernel.write(frame);
-    kernel.lemma_in_range();
-    written
+    if is_before_15(frame) {
+        return take_reply(kernel, &raised_to_15(frame));
+    }
+    take_reply(kernel, &raised_to_31(frame))
 }
 
 /// Receives frames until one waits for the kernel.
