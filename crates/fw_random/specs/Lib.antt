@@ -1,1 +1,3 @@
 pub mod Chances
+pub mod Comments
+pub mod Parts

@@ -11,7 +11,6 @@ use frame_words::name_of_error;
 use fw_drive::NoLine;
 use fw_script::read_number;
 use std::alloc::Allocator;
-use std::io::Write;
 
 /// A call.
 #[derive(Drop)]
@@ -90,29 +89,23 @@ fn put_answer<A: Allocator>(line: &mut Vec<u8, A>, words: &[u8]) -> Result<(), N
     put(line, words)
 }
 
-/// Prints that the answer to a call differs from that of the world beside.
-fn print_difference<A: Allocator, W: Write>(
-    alloc: A,
+/// Appends that the answer to a call differs from that of the world beside.
+fn put_difference<A: Allocator>(
+    said: &mut Vec<u8, A>,
     called: &Called<A>,
     here: &[u8],
-    out: &mut W,
 ) -> Result<(), NoLine> {
-    let mut line = Vec::new(alloc);
-    put(&mut line, b"differs: answer ")?;
-    put_number(&mut line, called.number)?;
-    put(&mut line, b" (")?;
-    put(&mut line, called.line.as_slice())?;
-    put(&mut line, b", line ")?;
-    put_number(&mut line, called.line_number)?;
-    put(&mut line, b"): ")?;
-    put_answer(&mut line, called.answer.as_slice())?;
-    put(&mut line, b", here ")?;
-    put_answer(&mut line, here)?;
-    put(&mut line, b"\n")?;
-    match out.write_all(line.as_slice()) {
-        Ok(()) => Ok(()),
-        Err(_) => Err(NoLine::OutputRefused),
-    }
+    put(said, b"differs: answer ")?;
+    put_number(said, called.number)?;
+    put(said, b" (")?;
+    put(said, called.line.as_slice())?;
+    put(said, b", line ")?;
+    put_number(said, called.line_number)?;
+    put(said, b"): ")?;
+    put_answer(said, called.answer.as_slice())?;
+    put(said, b", here ")?;
+    put_answer(said, here)?;
+    put(said, b"\n")
 }
 
 impl<A: Allocator + Copy> Group<A> {
@@ -210,15 +203,14 @@ impl<A: Allocator + Copy> Group<A> {
         Ok(())
     }
 
-    /// Makes the calls beside that change nothing, and notes which of the answers are right. Prints the others, where that is
-    /// asked for, and gives how many they are.
-    fn judge_readers<W: Write>(
+    /// Makes the calls beside that change nothing, and notes which of the answers are right. Appends what is to be said of the
+    /// others, where that is asked for.
+    fn judge_readers(
         &mut self,
         beside: &mut Beside<A>,
         says: bool,
-        out: &mut W,
-    ) -> Result<u64, NoLine> {
-        let mut wrong: u64 = 0;
+        said: &mut Vec<u8, A>,
+    ) -> Result<(), NoLine> {
         let is_alone = !self.has_change();
         for called in self.calls.iter_mut() {
             let line = called.line.as_slice();
@@ -238,11 +230,10 @@ impl<A: Allocator + Copy> Group<A> {
             };
             called.is_right = is_right || (self.is_signalled && is_interrupted(answer));
             if says && !called.is_right {
-                wrong = wrong.saturating_add(1);
-                print_difference(self.alloc, called, here.as_slice(), out)?;
+                put_difference(said, called, here.as_slice())?;
             }
         }
-        Ok(wrong)
+        Ok(())
     }
 
     /// Whether an answer is that of a server which has changed nothing so far: it may refuse each change.
@@ -258,10 +249,9 @@ impl<A: Allocator + Copy> Group<A> {
         self.has_changed |= made;
     }
 
-    /// Makes the calls beside that change files, and prints each answer that differs. Gives how many those are. What a signal
-    /// ended changed nothing, and nor did what was refused.
-    fn judge_changes<W: Write>(&self, beside: &mut Beside<A>, out: &mut W) -> Result<u64, NoLine> {
-        let mut wrong: u64 = 0;
+    /// Makes the calls beside that change files, and appends what is to be said of each answer that differs. What a signal ended
+    /// changed nothing, and nor did what was refused.
+    fn judge_changes(&self, beside: &mut Beside<A>, said: &mut Vec<u8, A>) -> Result<(), NoLine> {
         for called in self.calls.as_slice() {
             let line = called.line.as_slice();
             let answer = called.answer.as_slice();
@@ -280,11 +270,10 @@ impl<A: Allocator + Copy> Group<A> {
                 answer,
                 here.as_slice(),
             )? {
-                wrong = wrong.saturating_add(1);
-                print_difference(self.alloc, called, here.as_slice(), out)?;
+                put_difference(said, called, here.as_slice())?;
             }
         }
-        Ok(wrong)
+        Ok(())
     }
 
     /// Takes over into the world beside what the answers show to be there.
@@ -301,21 +290,20 @@ impl<A: Allocator + Copy> Group<A> {
         Ok(())
     }
 
-    /// Compares the answers with those of the world beside. Prints each that is in no order of the calls that one, and gives
-    /// how many those are.
-    pub(crate) fn judge<W: Write>(
+    /// Compares the answers with those of the world beside. Appends what is to be said of each that is in no order of the calls
+    /// that one.
+    pub(crate) fn judge(
         &mut self,
         beside: &mut Beside<A>,
-        out: &mut W,
-    ) -> Result<u64, NoLine> {
+        said: &mut Vec<u8, A>,
+    ) -> Result<(), NoLine> {
         if !self.has_change() {
-            return self.judge_readers(beside, true, out);
+            return self.judge_readers(beside, true, said);
         }
-        self.judge_readers(beside, false, out)?;
+        self.judge_readers(beside, false, said)?;
         self.note_change();
-        let wrong = self.judge_changes(beside, out)?;
-        let more = self.judge_readers(beside, true, out)?;
-        Ok(wrong.saturating_add(more))
+        self.judge_changes(beside, said)?;
+        self.judge_readers(beside, true, said)
     }
 }
 

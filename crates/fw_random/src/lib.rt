@@ -6,14 +6,16 @@ mod alike;
 mod beside;
 mod calls;
 mod chance;
+mod chooser;
 mod commented;
-mod drawn;
 mod group;
 mod known;
 mod linux;
 mod plan;
+mod progress;
+mod random_lines;
 mod rounds;
 mod text;
 
 pub use commented::Commented;
-pub use drawn::{Choice, RandomLines};
+pub use random_lines::{Choice, RandomLines};

@@ -1,15 +1,13 @@
-//! A source of lines that are chosen.
+//! The lines of each part of a run.
 
-ghost use Rattle.std.specs.Prelude.{◌≡◌, IfOk, not};
+ghost use Rattle.std.specs.Prelude.{◌≡◌, IfOk};
 ghost use Rattle.fw_random.specs.Chances.{of_seed};
 
 use crate::calls::{name_count, put_close, put_name_at};
-use crate::commented::Commented;
 use crate::rounds::Rounds;
 use crate::text::{put, put_number, word_at};
-use fw_drive::{KernelView, LineSource, NoLine, Standing};
+use fw_drive::{NoLine, Standing};
 use std::alloc::Allocator;
-use std::io::Write;
 
 /// How many nodes the last part of a run drops names of and evicts.
 const NODES: u64 = 256;
@@ -17,66 +15,19 @@ const NODES: u64 = 256;
 /// How many lines are chosen between two looks over the tree.
 const LOOK: u64 = 100;
 
-/// How often all is looked up again once it was forgotten: after the first time each node is counted once.
-const AGAIN: u64 = 2;
-
 /// Longer than a name is valid, in milliseconds.
 const LONG: &[u8] = b"tick 90000000";
 
-/// How the lines of a run are chosen.
-#[derive(Clone, Copy, Debug, PartialEq, Eq)]
-pub struct Choice {
-    /// The seed: what is chosen goes by it, by what the kernel can do, and by what the server answered.
-    pub seed: u64,
-    /// How many lines are chosen before the end.
-    pub events: u64,
-    /// Whether calls are chosen too that Linux would not send.
-    pub is_any: bool,
-    /// Whether the tree is looked over at the end alone.
-    pub is_quick: bool,
-}
-
-/// The parts of a run.
-#[derive(Clone, Copy, Debug, PartialEq, Eq)]
-enum Part {
-    /// The mount, INIT and its reply.
-    Mount,
-    /// What is there is looked up, and taken over.
-    Adopt,
-    /// What is chosen.
-    Draw,
-    /// Every reply is taken, and files are closed.
-    Drain,
-    /// Every name is looked up.
-    Look,
-    /// Every cached name is dropped.
-    Drop,
-    /// Every node is evicted.
-    Evict,
-    /// All is done.
-    End,
-}
-
-/// Lines that a seed chooses one after another, from what the kernel can do just then: calls and their requests, replies,
-/// signals, time, and forgets. The calls are also made in a world of this project's own, and answers that differ are printed.
-/// At last all replies are taken, names dropped and nodes evicted; each name is looked up again, and all is forgotten.
+/// What lines are chosen by.
 #[derive(Drop)]
-pub struct RandomLines<A: Allocator + Copy> {
+pub(crate) struct Chooser<A: Allocator + Copy> {
     rounds: Rounds<A>,
-    part: Part,
-    /// How many lines were given in this part.
-    drawn: u64,
-    /// How many lines are still chosen before the end.
-    events: u64,
     /// How many lines are chosen before the next look over the tree.
     unlooked: u64,
     /// Whether the tree is looked over at the end alone.
     is_quick: bool,
-    /// How often all was forgotten.
-    forgotten: u64,
     /// Whether calls run at once.
     is_burst: bool,
-    differences: u64,
 }
 
 /// Whether a line begins a call.
@@ -84,44 +35,37 @@ fn is_call(line: &[u8]) -> bool {
     word_at(line, 0) == b"call".as_slice()
 }
 
-impl<A: Allocator + Copy> RandomLines<A> {
-    /// So many lines of a seed, and those of the mount, of looks over the tree and of the end.
+impl<A: Allocator + Copy> Chooser<A> {
+    /// What chooses by a seed.
     ///
     /// # Errors
     ///
     /// Out of memory.
-    pub fn new(alloc: A, choice: Choice) -> Result<Self, NoLine>
-        ensures seed { IfOk result (λ lines. lines.rounds.chance.generator ≡ of_seed choice.seed) }
-        ensures options { IfOk result (λ lines. (lines.events ≡ choice.events) × (lines.is_quick ≡ choice.is_quick)
-            × (lines.rounds.is_linux ≡ not choice.is_any)) }
+    pub(crate) fn new(alloc: A, seed: u64, is_linux: bool, is_quick: bool) -> Result<Self, NoLine>
+        ensures seed { IfOk result (λ chooser. chooser.rounds.chance.generator ≡ of_seed seed) }
+        ensures options { IfOk result (λ chooser. (chooser.is_quick ≡ is_quick) × (chooser.rounds.is_linux ≡ is_linux)) }
     {
-        Ok(RandomLines {
-            rounds: Rounds::new(alloc, choice.seed, !choice.is_any)?,
-            part: Part::Mount,
-            drawn: 0,
-            events: choice.events,
+        Ok(Chooser {
+            rounds: Rounds::new(alloc, seed, is_linux)?,
             unlooked: LOOK,
-            is_quick: choice.is_quick,
-            forgotten: 0,
+            is_quick,
             is_burst: false,
-            differences: 0,
         })
     }
 
     /// Ends the world beside.
-    pub fn end(self) {
+    pub(crate) fn end(self) {
         self.rounds.end();
     }
 
-    /// Whether an answer was another than in the world beside.
-    pub fn has_difference(&self) -> bool {
-        self.differences > 0
+    /// Takes what was printed since the last line.
+    pub(crate) fn note(&mut self, text: &[u8]) -> Result<(), NoLine> {
+        self.rounds.known.note(text)
     }
 
-    /// The next part begins.
-    fn go_to(&mut self, part: Part) {
-        self.part = part;
-        self.drawn = 0;
+    /// Keeps the line that is run next.
+    pub(crate) fn keep_line(&mut self, line: &[u8]) -> Result<(), NoLine> {
+        self.rounds.known.keep_line(line)
     }
 
     /// Writes a line that reads a request which may be read, or takes a frame that is to come. Says whether there is one.
@@ -170,12 +114,13 @@ impl<A: Allocator + Copy> RandomLines<A> {
     }
 
     /// Writes the mount, with validities, or what belongs to INIT. Says whether INIT is still to be answered.
-    fn put_mount<B: Allocator>(
+    pub(crate) fn put_mount<B: Allocator>(
         &mut self,
+        given: u64,
         standing: Standing,
         line: &mut Vec<u8, B>,
     ) -> Result<bool, NoLine> {
-        if self.drawn == 0 {
+        if given == 0 {
             self.rounds.beside.mount()?;
             put(line, b"mount 0 0")?;
             return Ok(true);
@@ -280,28 +225,29 @@ impl<A: Allocator + Copy> RandomLines<A> {
         put(line, b"show")
     }
 
-    /// Writes a line that is chosen.
-    fn put_drawn<B: Allocator>(
+    /// Writes a line that is chosen. Says whether it is one of the events, and none of a look over the tree.
+    pub(crate) fn put_drawn<B: Allocator>(
         &mut self,
         standing: Standing,
         line: &mut Vec<u8, B>,
-    ) -> Result<(), NoLine> {
-        if !self.rounds.plan.is_looking() {
-            self.events = self.events.saturating_sub(1);
+    ) -> Result<bool, NoLine> {
+        let is_event = !self.rounds.plan.is_looking();
+        if is_event {
             self.unlooked = self.unlooked.saturating_sub(1);
         }
         if self.put_todo(standing, line)? {
-            return Ok(());
+            return Ok(is_event);
         }
         if self.is_quiet(standing) {
-            self.put_next(standing, line)
+            self.put_next(standing, line)?;
         } else {
-            self.put_under_way(standing, line)
+            self.put_under_way(standing, line)?;
         }
+        Ok(is_event)
     }
 
     /// Writes a line that takes what is under way, or closes a file. Says whether there is one.
-    fn put_drain<B: Allocator>(
+    pub(crate) fn put_drain<B: Allocator>(
         &mut self,
         standing: Standing,
         line: &mut Vec<u8, B>,
@@ -322,15 +268,16 @@ impl<A: Allocator + Copy> RandomLines<A> {
         Ok(true)
     }
 
-    /// Writes a line of the look over the tree. Says whether there is one.
-    fn put_look<B: Allocator>(
+    /// Writes a line of the look over the tree, by READDIRPLUS or not. Says whether there is one.
+    pub(crate) fn put_look<B: Allocator>(
         &mut self,
+        given: u64,
+        lists_entries: bool,
         standing: Standing,
         line: &mut Vec<u8, B>,
     ) -> Result<bool, NoLine> {
-        if self.drawn == 0 {
-            // Once all was forgotten, what READDIRPLUS gives is counted by that alone.
-            self.rounds.plan.begin_look(self.forgotten == 1)?;
+        if given == 0 {
+            self.rounds.plan.begin_look(lists_entries)?;
         }
         if self.put_todo(standing, line)? || self.put_frame(standing, line)? {
             return Ok(true);
@@ -340,12 +287,16 @@ impl<A: Allocator + Copy> RandomLines<A> {
     }
 
     /// Writes that the next name is dropped, of those in each node. Says whether there is one.
-    fn put_next_drop<B: Allocator>(&mut self, line: &mut Vec<u8, B>) -> Result<bool, NoLine> {
-        if self.drawn == 0 {
+    pub(crate) fn put_next_drop<B: Allocator>(
+        &mut self,
+        given: u64,
+        line: &mut Vec<u8, B>,
+    ) -> Result<bool, NoLine> {
+        if given == 0 {
             put(line, b"show")?;
             return Ok(true);
         }
-        let place = self.drawn - 1;
+        let place = given - 1;
         let names = name_count().max(1);
         let directory = place / names;
         let node = if directory == 0 {
@@ -370,9 +321,13 @@ impl<A: Allocator + Copy> RandomLines<A> {
     }
 
     /// Writes that the next node is evicted. Says whether there is one.
-    fn put_next_evict<B: Allocator>(&mut self, line: &mut Vec<u8, B>) -> Result<bool, NoLine> {
-        match self.rounds.known.nodes.as_slice().get(self.drawn as usize) {
-            Some(node) if self.drawn < NODES => {
+    fn put_next_evict<B: Allocator>(
+        &mut self,
+        given: u64,
+        line: &mut Vec<u8, B>,
+    ) -> Result<bool, NoLine> {
+        match self.rounds.known.nodes.as_slice().get(given as usize) {
+            Some(node) if given < NODES => {
                 put(line, b"evict ")?;
                 put_number(line, *node)?;
                 Ok(true)
@@ -381,51 +336,23 @@ impl<A: Allocator + Copy> RandomLines<A> {
         }
     }
 
-    /// Writes the next line of this part. Says whether there is one.
-    fn put_of_part<B: Allocator>(
+    /// Writes that the next node is evicted, or a line that takes what is under way then, or sends a forget. Says whether there
+    /// is one.
+    pub(crate) fn put_evict<B: Allocator>(
         &mut self,
+        given: u64,
         standing: Standing,
         line: &mut Vec<u8, B>,
     ) -> Result<bool, NoLine> {
-        match self.part {
-            Part::Mount => self.put_mount(standing, line),
-            Part::Draw if self.events > 0 => {
-                self.put_drawn(standing, line)?;
-                Ok(true)
-            }
-            Part::Draw | Part::End => Ok(false),
-            Part::Drain => self.put_drain(standing, line),
-            Part::Adopt | Part::Look => self.put_look(standing, line),
-            Part::Drop => self.put_next_drop(line),
-            Part::Evict => {
-                if self.put_next_evict(line)? || self.put_frame(standing, line)? {
-                    Ok(true)
-                } else {
-                    self.put_forget(standing, 1, line)
-                }
-            }
+        if self.put_next_evict(given, line)? || self.put_frame(standing, line)? {
+            Ok(true)
+        } else {
+            self.put_forget(standing, 1, line)
         }
     }
 
-    /// The part behind this one: all is looked up once it was forgotten.
-    fn next_part(&mut self) -> Part {
-        match self.part {
-            Part::Mount => Part::Adopt,
-            Part::Adopt => Part::Draw,
-            Part::Draw => Part::Drain,
-            Part::Drain => Part::Look,
-            Part::Look => Part::Drop,
-            Part::Drop => Part::Evict,
-            Part::Evict if self.forgotten < AGAIN => {
-                self.forgotten = self.forgotten.saturating_add(1);
-                Part::Look
-            }
-            Part::Evict | Part::End => Part::End,
-        }
-    }
-
-    /// Compares what calls were answered with what the world beside answers, once none is under way, and plans what follows.
-    fn judge<W: Write>(&mut self, out: &mut W) -> Result<(), NoLine> {
+    /// Plans that the nodes are evicted that were shown, where that was asked for.
+    fn plan_evictions(&mut self) -> Result<(), NoLine> {
         let rounds = &mut self.rounds;
         if rounds.plan.evicts && word_at(rounds.known.line.as_slice(), 0) == b"show".as_slice() {
             rounds.plan.evicts = false;
@@ -433,17 +360,30 @@ impl<A: Allocator + Copy> RandomLines<A> {
                 rounds.plan.put_numbered(b"evict ", *node, b"")?;
             }
         }
-        if !rounds.known.group.is_over() {
-            return Ok(());
-        }
-        if self.part == Part::Adopt {
+        Ok(())
+    }
+
+    /// Takes over what calls were answered into the world beside, once none is under way, and plans what follows.
+    pub(crate) fn adopt(&mut self) -> Result<(), NoLine> {
+        self.plan_evictions()?;
+        let rounds = &mut self.rounds;
+        if rounds.known.group.is_over() {
             rounds.known.group.adopt(&mut rounds.beside)?;
             rounds.known.group.follow(&mut rounds.plan)?;
             rounds.known.group.clear();
+        }
+        Ok(())
+    }
+
+    /// Compares what calls were answered with what the world beside answers, once none is under way, and plans what follows.
+    /// Appends what is to be said of each answer that is another.
+    pub(crate) fn judge(&mut self, said: &mut Vec<u8, A>) -> Result<(), NoLine> {
+        self.plan_evictions()?;
+        let rounds = &mut self.rounds;
+        if !rounds.known.group.is_over() {
             return Ok(());
         }
-        let wrong = rounds.known.group.judge(&mut rounds.beside, out)?;
-        self.differences = self.differences.saturating_add(wrong);
+        rounds.known.group.judge(&mut rounds.beside, said)?;
         rounds.known.group.follow(&mut rounds.plan)?;
         if rounds.known.group.is_many() && rounds.known.group.has_change() {
             rounds.plan.put_first(LONG)?;
@@ -451,57 +391,4 @@ impl<A: Allocator + Copy> RandomLines<A> {
         rounds.known.group.clear();
         Ok(())
     }
-
-    /// Writes the next line, in place of what the buffer has. Says whether there is one.
-    fn draw<B: Allocator>(
-        &mut self,
-        standing: Standing,
-        line: &mut Vec<u8, B>,
-    ) -> Result<bool, NoLine> {
-        line.clear();
-        for _part in 0..14 {
-            if self.put_of_part(standing, line)? {
-                self.drawn = self.drawn.saturating_add(1);
-                return Ok(true);
-            }
-            let next = self.next_part();
-            self.go_to(next);
-        }
-        Ok(false)
-    }
-}
-
-impl<A: Allocator + Copy, W: Write + Drop, H: Allocator> LineSource<Commented<W, H>>
-    for RandomLines<A> {
-    ghost use Rattle.std.specs.Prelude.{ℕ, List};
-
-    // No contract says which lines are chosen.
-    ghost gives = { λ old new lines. Unit {0} };
-
-    ghost is_over = { λ source. Unit {0} };
-
-    /// Chooses the next line by what was printed since the one before, and prints it.
-    fn next_line<B: Allocator, V: KernelView>(
-        &mut self,
-        standing: Standing,
-        _kernel: &V,
-        out: &mut Commented<W, H>,
-        line: &mut Vec<u8, B>,
-    ) -> Result<bool, NoLine> {
-        self.rounds.known.note(out.text())?;
-        self.judge(out)?;
-        out.clear();
-        if !self.draw(standing, line)? {
-            return Ok(false);
-        }
-        self.rounds.known.keep_line(line.as_slice())?;
-        match out.put_line(line.as_slice()) {
-            Ok(()) => Ok(true),
-            Err(_) => Err(NoLine::OutputRefused),
-        }
-    }
-
-    ghost stays = { λ source. tt };
-
-    ghost goes_on = { λ first mid last lines more one two. tt };
 }
