@@ -25,7 +25,7 @@ import time
 from pathlib import Path
 
 WRONG = re.compile(r"(reply to nothing|second reply|no reply's head|body is not its request's|node \d+ under two generations"
-                   r"|node \d+ given for two files at once|the root given for a name|differs: |frame \d+: server: |server ended|device failed)")
+                   r"|node \d+ given for two files at once|the root given for a name|differs: |frame \d+: server: |no reply: |server ended|device failed)")
 ODD = re.compile(r"frame \d+: warning: ")
 # What names a request, and what stands behind it; and the words of a call whose answer differs. Each script has others.
 ASKED = re.compile(r": [A-Z]+ \d+( of call|:|$| and ).*")
@@ -148,6 +148,26 @@ def differing(lines, others):
     return []
 
 
+def not_going_on(script, lines):
+    """The first listing from the offset of a name on that gives other names than those behind it in the listing before."""
+    calls = [line.split(" ") for line in script if line.startswith("call ")]
+    begun = [line.split(" ")[1] for line in lines if re.match(r"call \d+$", line)]
+    called = {number: words for number, words in zip(begun, calls) if number != "0"}
+    listed = None
+    for words in (line.split(" ") for line in lines if line.startswith("answer ")):
+        call = called.get(words[1], [])
+        names = [name.split(":") for name in words[3:]]
+        if call[1:2] not in (["list"], ["listplus"]) or words[2] != "0":
+            listed = None
+        elif call[3] == "0":
+            listed = call[:3], names
+        elif listed and listed[0] == call[:3] and (places := [at for at, name in enumerate(listed[1]) if name[1] == call[3]]):
+            behind = listed[1][places[0] + 1:]
+            if sorted(name[0] for name in behind) != sorted(name[0] for name in names):
+                return [f"differs: answer {words[1]} (call {' '.join(call[1:])}): it does not go on behind a name"]
+    return []
+
+
 def said_answer(line):
     """What an answer's line says behind the call, with the name of an error."""
     words = line.split(" ")[2:]
@@ -161,7 +181,8 @@ def tried(asked, script, capture=None):
     if not asked.is_beside:
         return said
     honest = argparse.Namespace(**{**vars(asked), "server": [asked.program, "serve", "SOCK"], "before": None})
-    return "\n".join([said, *differing(said.splitlines(), driven(honest, script, None).splitlines())])
+    lines = said.splitlines()
+    return "\n".join([said, *(differing(lines, driven(honest, script, None).splitlines()) or not_going_on(script, lines))])
 
 
 def driven(asked, script, capture):
@@ -189,14 +210,14 @@ def fault_in(line, asked):
     return re.sub(r"\d+", "N", line)
 
 
-def of_calls(lines, is_evicted):
-    """The lines that `drive --calls` takes, each call in one: a listing goes on by itself, and where so asked all that is dropped
-    or evicted goes at once."""
+def of_calls(lines, is_evicted, is_whole_listing):
+    """The lines that `drive --calls` takes, each call in one. Where so asked all that is dropped or evicted goes at once, and a
+    listing goes on by itself."""
     result = []
     for words in (line.split(" ") for line in lines):
         if words[0] not in ("call", "tick", "drop", "evict", "abort"):
             continue
-        if words[1:2] in (["list"], ["listplus"]) and len(words) == 4:
+        if is_whole_listing and words[1:2] in (["list"], ["listplus"]) and len(words) == 4:
             words[3] = "all"
         elif is_evicted and words[0] in ("drop", "evict"):
             words = ["evict", "all"]
@@ -315,9 +336,18 @@ def shrunk(count, is_wrong, owners):
             return kept
 
 
-def shortest(asked, lines, fault):
-    """The script that is left, whose form `asked` has from then on, and how many tries it took."""
-    tries = 0
+def first_fault(asked, script):
+    """The first fault of a script, in the way in which there is one, or None."""
+    for asked.is_beside, asked.is_odd in ((False, False), (True, False), (False, True)):
+        for line in tried(asked, script).splitlines():
+            if fault_in(line, asked):
+                return line
+    return None
+
+
+def shortest(asked, lines, said):
+    """The script that is left, in a form that `asked` has from then on, and how many tries it took."""
+    fault, tries = fault_in(said, asked), 0
 
     def is_faulty(script):
         nonlocal tries
@@ -326,8 +356,8 @@ def shortest(asked, lines, fault):
         tries += 1
         return any(fault_in(line, asked) == fault for line in tried(asked, script).splitlines())
 
-    for is_evicted in (True, False):
-        script, asked.form = of_calls(lines, is_evicted), ["--calls"]
+    asked.form = ["--calls"]
+    for script in carried(lines):
         if is_faulty(script):
             places = shrunk(len(script), lambda kept: is_faulty([script[place] for place in kept]), list(range(len(script))))
             return [script[place] for place in places], tries
@@ -337,16 +367,19 @@ def shortest(asked, lines, fault):
     return steps.script(places), tries
 
 
+def carried(lines):
+    """The scripts of the calls alone."""
+    for is_evicted, is_whole_listing in ((True, True), (True, False), (False, True), (False, False)):
+        yield of_calls(lines, is_evicted, is_whole_listing)
+
+
 def main():
     asked = parsed()
     lines = named([line for line in asked.script.read_text().splitlines() if line and not line.startswith("#")])
-    for asked.is_beside, asked.is_odd in ((False, False), (True, False), (False, True)):
-        said = [line for line in tried(asked, lines).splitlines() if fault_in(line, asked)]
-        if said:
-            break
-    else:
+    said = first_fault(asked, lines)
+    if not said:
         sys.exit("the server does nothing wrong at this script")
-    script, tries = shortest(asked, lines, fault_in(said[0], asked))
+    script, tries = shortest(asked, lines, said)
     script = without_names(script)
     short = Path(f"{asked.script}.short")
     capture = Path(f"{short}.capture")
@@ -358,7 +391,7 @@ def main():
     around = found[1] if found else str(len(capture.read_text().splitlines()))
     with open(f"{short}.svg", "wb") as picture:
         subprocess.run([asked.program, "draw", "--around", around, str(capture)], stdout=picture, check=True)
-    print(f"{said[0]}\n{len(lines)} lines, {len(script)} left after {tries} tries: {short}", file=sys.stderr)
+    print(f"{said}\n{len(lines)} lines, {len(script)} left after {tries} tries: {short}", file=sys.stderr)
     print(short.read_text(), end="")
     return 0
 
