@@ -267,11 +267,11 @@ def run_agreements():
     for minor, lines in [(31, live), (32, live), (22, ended)]:
         wanted = (lines, 0 if lines is live else 4)
         judge(f"7.{minor}", on_frames([] if lines is live else SHORT_WAIT, STAT, [reply(2, agreement(minor))], [ATTR]), wanted)
-    # Before 7.23 the body has 24 bytes, and BATCH_FORGET came with 7.16.
-    for minor, size in [(16, 24), (19, 24), (22, 24), (23, 64), (28, 64), (30, 64)]:
-        wanted = ([*MOUNTED, f"7.{minor} taken as 7.31", *live[len(MOUNTED):]], 0)
+    # Before 7.23 the body has 24 bytes. BATCH_FORGET came with 7.16, and a longer CREATE with 7.12.
+    for minor, size, known in [(12, 24, 15), (14, 24, 15), (16, 24, 31), (19, 24, 31), (22, 24, 31), (23, 64, 31), (28, 64, 31), (30, 64, 31)]:
+        wanted = ([*MOUNTED, f"7.{minor} taken as 7.{known}", *live[len(MOUNTED):]], 0)
         judge(f"7.{minor}", on_frames([], STAT, [reply(2, agreement(minor)[:size])], [ATTR]), wanted)
-    for minor, size in [(28, 24), (23, 24), (14, 24), (19, 23)]:
+    for minor, size in [(28, 24), (23, 24), (11, 24), (14, 23), (19, 23)]:
         judge(f"7.{minor} of another length", on_frames(SHORT_WAIT, STAT, [reply(2, agreement(minor)[:size])], [ATTR]),
               ([*MOUNTED[:2], "written 2 22", f"body is not its request's: INIT 2: {size} bytes", *ended[3:]], 4))
     judge("INIT fails", on_frames(SHORT_WAIT, STAT, [reply(2, error=5)], [ATTR]), (ended, 4))
