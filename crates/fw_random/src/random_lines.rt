@@ -1,6 +1,6 @@
 //! A source of lines that are chosen.
 
-ghost use Rattle.std.specs.Prelude.{◌≡◌, ◌≤◌, ◌+◌, IfOk, false, if◌then◌else◌, not};
+ghost use Rattle.std.specs.Prelude.{◌≡◌, ◌≤◌, ◌+◌, ◌||◌, IfOk, false, if◌then◌else◌, length, nat_lt, not};
 ghost use Rattle.fw_random.specs.Chances.{of_seed};
 ghost use Rattle.fw_random.specs.Parts.{IsOver};
 
@@ -45,6 +45,7 @@ impl<A: Allocator + Copy> RandomLines<A> {
     pub fn new(alloc: A, choice: Choice) -> Result<Self, NoLine>
         ensures seed { IfOk result (λ lines. lines.chooser.rounds.chance.generator ≡ of_seed choice.seed) }
         ensures events { IfOk result (λ lines. lines.progress.events ≡ choice.events) }
+        ensures alike { IfOk result (λ lines. lines.has_difference ≡ false) }
         ensures options { IfOk result (λ lines. (lines.chooser.is_quick ≡ choice.is_quick)
             × (lines.chooser.rounds.is_linux ≡ not choice.is_any)) }
     {
@@ -70,7 +71,9 @@ impl<A: Allocator + Copy> RandomLines<A> {
 
     /// Judges what calls were answered, once none is under way. Gives what is to be said of the answers, line by line.
     fn judge(&mut self) -> Result<Vec<u8, A>, NoLine>
-        ensures { self.new.progress ≡ self.old.progress }
+        ensures same { self.new.progress ≡ self.old.progress }
+        ensures said { IfOk result (λ said. self.new.has_difference
+            ≡ self.old.has_difference || nat_lt 0 (length said.items)) }
     {
         let mut said = Vec::new(self.alloc);
         if self.progress.part() == Part::Adopt {
@@ -96,6 +99,7 @@ impl<A: Allocator + Copy> RandomLines<A> {
             ≤ self.new.progress.events + (if is_given then 1 else 0)) }
         ensures none { IfOk result (λ is_given. is_given ≡ false → self.old.progress.part ≡ Part.Draw
             → self.new.progress.events ≡ 0) }
+        ensures same { self.new.has_difference ≡ self.old.has_difference }
     {
         let given = self.progress.given();
         let again = self.progress.is_forgotten_once();
@@ -128,6 +132,7 @@ impl<A: Allocator + Copy> RandomLines<A> {
         ensures one { IfOk result (λ is_given. self.old.progress.events
             ≤ self.new.progress.events + (if is_given then 1 else 0)) }
         ensures over { IfOk result (λ is_given. is_given ≡ false → IsOver self.new.progress) }
+        ensures same { self.new.has_difference ≡ self.old.has_difference }
     {
         line.clear();
         while self.progress.part() != Part::End {
@@ -165,10 +170,12 @@ impl<A: Allocator + Copy, W: Write + Drop, H: Allocator> LineSource<Commented<W,
         ensures given { IfOk result (λ is_given. MatchBool is_given
             (HasChosen self.old.progress self.new.progress (line.new.items ∷ []))
             (HasChosen self.old.progress self.new.progress [] × IsOver self.new.progress)) }
-        // What is printed is what is said of answers, in comments, and behind that the line that is given, as it is.
+        // What is printed is what is said of answers, in comments, and behind that the line that is given, as it is. An answer
+        // is known to differ where that is said of it.
         ensures printed { IfOk result (λ is_given. (said : List ℕ) × Appends (W.contents out.old.writer)
             (W.contents out.new.writer) (commented out.old.is_begun said
-            ++ (if is_given then script_line (is_begun_behind out.old.is_begun said) line.new.items else []))) }
+            ++ (if is_given then script_line (is_begun_behind out.old.is_begun said) line.new.items else []))
+            × (self.new.has_difference ≡ self.old.has_difference || nat_lt 0 (length said))) }
     {
         self.chooser.note(out.text())?;
         let said = self.judge()?;
