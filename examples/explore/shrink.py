@@ -320,18 +320,25 @@ def shrunk(count, is_wrong, owners):
             else:
                 start += step
 
-    part = len({owners[place] for place in kept}) // 2
-    while part > 8:
-        leave_out(part, part, owners)
-        part //= 2
+    def leave_out_all(of):
+        """Leaves out ever smaller parts, each behind the one before, until no unit can go alone."""
+        part = max(1, len({of[place] for place in kept}) // 2)
+        while True:
+            before = len(kept)
+            leave_out(part, part, of)
+            if part == 1 and len(kept) == before:
+                return
+            part = max(1, part // 2)
+
     alone = list(range(count))
     while True:
         before = len(kept)
-        for part in (8, 6, 4, 3, 2, 1):
-            leave_out(part, 1, owners)
-        # What a call takes are some lines that go together or not at all.
-        for part in (4, 3, 2, 1):
-            leave_out(part, 1, alone)
+        leave_out_all(owners)
+        leave_out_all(alone)
+        # Some go together or not at all, and do not stand where a part begins.
+        for of, parts in ((owners, (6, 4, 3, 2)), (alone, (4, 3, 2))):
+            for part in parts:
+                leave_out(part, 1, of)
         if len(kept) == before:
             return kept
 
