@@ -1,6 +1,6 @@
 //! What is printed of a driven run.
 
-ghost use Rattle.std.specs.Prelude.{◌≡◌, ◌++◌, OnErr, OnOk, codes, decimal};
+ghost use Rattle.std.specs.Prelude.{◌≡◌, ◌++◌, OnErr, OnOk, codes, decimal, if◌then◌else◌, nat_lt};
 ghost use Rattle.std.specs.Io.KnownBytes.{Appends};
 ghost use Rattle.fuse_frames.specs.RequestTies.{asked_opcode};
 ghost use Rattle.fk_syscalls.specs.declared.call.Answer.{Answer as AnswerValue};
@@ -111,6 +111,17 @@ pub(crate) fn print_between<W: Write>(
     write_text(out, after)
 }
 
+/// The words of the version as which an agreement on an older minor version is handed on.
+fn taken_as(minor: u8) -> &'static [u8]
+    ensures { result.now ≡ codes (if nat_lt minor 15 then " taken as 7.15\n" else " taken as 7.31\n") }
+{
+    if minor < 15 {
+        b" taken as 7.15\n"
+    } else {
+        b" taken as 7.31\n"
+    }
+}
+
 /// Prints that an older agreement was handed on as one on 7.15 or 7.31.
 pub(crate) fn print_raised<A: Allocator, W: Write>(
     out: &mut W,
@@ -119,12 +130,7 @@ pub(crate) fn print_raised<A: Allocator, W: Write>(
     ensures ok { OnOk result (Appends (W.contents out.old) (W.contents out.new) (note_text {A = A} (raised minor))) }
     ensures refused { OnErr result (AppendsSome (W.contents out.old) (W.contents out.new) (note_text {A = A} (raised minor))) }
 {
-    let after: &[u8] = if minor < 15 {
-        b" taken as 7.15\n"
-    } else {
-        b" taken as 7.31\n"
-    };
-    print_between(out, b"7.", u64::from(minor), after)
+    print_between(out, b"7.", u64::from(minor), taken_as(minor))
 }
 
 /// Prints words and a number, other words and a number, and a line feed.
