@@ -11,7 +11,7 @@ returns g c =
     let now = g.W.Write.contents in
     let head = codes "{\"direction\":\"reply\",\"opcode\":" ++ decimal (code_of c.args.opcode) in
     let first : Appends (now c.args.out.now) (now c.write.new.self) head =
-    rw c.number_of_opcode-number.ensures at c.in_ok-write.ensures.bytes in
+    rw c.code-number.ensures at c.in_ok-write.ensures.bytes in
     OnOk-map _ _ c.write_frame_members.result (λ wrote. Appends-append (now c.args.out.now) (now c.write.new.self)
     (now c.write_frame_members.new.out) head (frame_members c.args.minor c.args.frame.now) first wrote)
     c.write_frame_members.ensures
