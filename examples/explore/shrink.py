@@ -148,7 +148,7 @@ def differing(lines, others):
     return []
 
 
-def not_going_on(script, lines):
+def listing_fault(script, lines):
     """The first listing from the offset of a name on that gives other names than those behind it in the listing before."""
     calls = [line.split(" ") for line in script if line.startswith("call ")]
     begun = [line.split(" ")[1] for line in lines if re.match(r"call \d+$", line)]
@@ -182,7 +182,7 @@ def tried(asked, script, capture=None):
         return said
     honest = argparse.Namespace(**{**vars(asked), "server": [asked.program, "serve", "SOCK"], "before": None})
     lines = said.splitlines()
-    return "\n".join([said, *(differing(lines, driven(honest, script, None).splitlines()) or not_going_on(script, lines))])
+    return "\n".join([said, *(differing(lines, driven(honest, script, None).splitlines()) or listing_fault(script, lines))])
 
 
 def driven(asked, script, capture):
