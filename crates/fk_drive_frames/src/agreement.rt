@@ -2,7 +2,7 @@
 
 ghost use Rattle.std.specs.Prelude.{◌≡◌, ◌≤◌, ◌<◌, ◌↔◌, IsTrue};
 ghost use Rattle.fk_wire.specs.Fields.{number_at};
-ghost use Rattle.fk_drive_frames.specs.Agreements.{IsAgreement, IsOlderAgreement, agreement_on, raised};
+ghost use Rattle.fk_drive_frames.specs.Agreements.{IsAgreement, IsOlderAgreement, raised};
 
 use fk_fields::{u32_at, u64_at};
 

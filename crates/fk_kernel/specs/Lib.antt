@@ -4,3 +4,4 @@ pub mod Picks
 pub mod AwaitedReplies
 pub mod Entries
 pub mod CallReplies
+pub mod KernelSteps

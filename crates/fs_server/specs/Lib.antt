@@ -6,3 +6,4 @@ pub mod Effects
 pub mod Interrupts
 pub mod Faults
 pub mod Releasing
+pub mod ServerSteps

@@ -14,7 +14,9 @@ mod replies;
 mod request_faults;
 mod server;
 mod settle;
+mod step;
 mod take;
 
 pub use fs_nodes::NodeStore;
 pub use server::{Done, ListServer, Server, ServerFault, ServerOf, Taken};
+pub use step::{ServerEvent, ServerRefused, ServerStep};

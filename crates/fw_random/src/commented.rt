@@ -108,18 +108,15 @@ impl<W: Write + Drop, A: Allocator> Commented<W, A> {
         ensures ok { OnOk result (Appends (W.contents self.old.writer) (W.contents self.new.writer)
             (commented self.old.is_begun piece.now)) }
         ensures begun { OnOk result (self.new.is_begun ≡ is_begun_behind self.old.is_begun piece.now) }
-        ensures text { OnOk result (self.new.text.items ≡ self.old.text.items ++ piece.now) }
+        ensures text { self.new.text ≡ self.old.text }
     {
         self.begin_line()?;
         self.writer.write_all(piece)?;
         self.is_begun = piece[piece.len() - 1] != b'\n';
-        match self.text.extend_from_slice(piece) {
-            Ok(()) => Ok(()),
-            Err(_) => Err(Error::from(ErrorKind::OutOfMemory)),
-        }
+        Ok(())
     }
 
-    /// Writes a text in comments.
+    /// Writes a text in comments, which is not kept.
     pub(crate) fn put_comments(&mut self, text: &[u8]) -> Result<(), NoLine>
         ensures ok { OnOk result (Appends (W.contents self.old.writer) (W.contents self.new.writer)
             (commented self.old.is_begun text.now)) }
@@ -153,7 +150,10 @@ impl<W: Write + Drop, A: Allocator> Write for Commented<W, A> {
         }
         let end = piece_len(bytes);
         self.write_piece(&bytes[..end])?;
-        Ok(end)
+        match self.text.extend_from_slice(&bytes[..end]) {
+            Ok(()) => Ok(end),
+            Err(_) => Err(Error::from(ErrorKind::OutOfMemory)),
+        }
     }
 
     fn flush(&mut self) -> io::Result<()> {

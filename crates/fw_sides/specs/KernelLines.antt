@@ -5,8 +5,8 @@ use Rattle.fw_script.specs.CallLines.{HasTexts, spelled_call}
 use Rattle.fw_frames.specs.HexTexts.{IsHexOrNone, hex_or_none}
 use Rattle.fw_script.specs.Lines.{spelled_pick}
 use Rattle.fw_script.specs.Words.{words_of}
-use Rattle.fw_sides.specs.declared.kernel_event.KernelEvent.{KernelEvent}
-use Rattle.fw_sides.specs.declared.kernel_event.KernelEvent.TheVariants as event
+use Rattle.fk_kernel.specs.declared.step.KernelEvent.{KernelEvent}
+use Rattle.fk_kernel.specs.declared.step.KernelEvent.TheVariants as event
 use Rattle.fw_sides.specs.declared.kernel_line.KernelLine.{KernelLine}
 use Rattle.fw_sides.specs.declared.kernel_line.KernelLine.TheVariants as line
 

@@ -2,10 +2,10 @@
 use Rattle.std.specs.Prelude.{◌≡◌, ℕ, List, [], ◌∷◌, ◌++◌}
 use Rattle.fuse_spec.specs.declared.Refusal.{Refusal}
 use Rattle.fuse_spec.specs.Kernel.Kernel.{Kernel}
-use Rattle.fw_sides.specs.declared.kernel_event.KernelEvent.{KernelEvent}
-use Rattle.fw_sides.specs.declared.kernel_event.KernelStep.{KernelStep}
+use Rattle.fk_kernel.specs.declared.step.KernelEvent.{KernelEvent}
+use Rattle.fk_kernel.specs.declared.step.KernelStep.{KernelStep}
 use Rattle.fw_sides.specs.KernelLines.{SaysEvent}
-use Rattle.fw_sides.specs.KernelSteps.{KernelDoes, KernelRefuses}
+use Rattle.fk_kernel.specs.KernelSteps.{KernelDoes, KernelRefuses}
 
 -- the kernel once all answers are collected
 abbrev pub all_collected : Kernel → Kernel

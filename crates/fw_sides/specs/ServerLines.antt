@@ -5,8 +5,8 @@ use Rattle.fuse_spec.specs.declared.WriteResult.TheVariants.{Accepted, NoEntry, 
 use Rattle.fw_frames.specs.HexTexts.{IsHexOrNone, hex_or_none}
 use Rattle.fw_script.specs.Lines.{EndsAt}
 use Rattle.fw_script.specs.Words.{words_of}
-use Rattle.fw_sides.specs.declared.server_event.ServerEvent.{ServerEvent}
-use Rattle.fw_sides.specs.declared.server_event.ServerEvent.TheVariants as event
+use Rattle.fs_server.specs.declared.step.ServerEvent.{ServerEvent}
+use Rattle.fs_server.specs.declared.step.ServerEvent.TheVariants as event
 use Rattle.fw_sides.specs.declared.server_line.ServerLine.{ServerLine}
 use Rattle.fw_sides.specs.declared.server_line.ServerLine.TheVariants as line
 

@@ -1,11 +1,11 @@
 -- What lines make of a server by itself, one after another.
 use Rattle.std.specs.Prelude.{◌≡◌, ℕ, List, [], ◌∷◌, ◌++◌}
 use Rattle.fuse_spec.specs.Server.Server.{Server}
-use Rattle.fw_sides.specs.declared.server_event.ServerEvent.{ServerEvent}
-use Rattle.fw_sides.specs.declared.server_event.ServerRefused.{ServerRefused}
-use Rattle.fw_sides.specs.declared.server_event.ServerStep.{ServerStep}
+use Rattle.fs_server.specs.declared.step.ServerEvent.{ServerEvent}
+use Rattle.fs_server.specs.declared.step.ServerRefused.{ServerRefused}
+use Rattle.fs_server.specs.declared.step.ServerStep.{ServerStep}
 use Rattle.fw_sides.specs.ServerLines.{SaysServerEvent}
-use Rattle.fw_sides.specs.ServerSteps.{ServerDoes, ServerRefuses}
+use Rattle.fs_server.specs.ServerSteps.{ServerDoes, ServerRefuses}
 
 -- An event happens to the server; or it is refused, and nothing changes.
 pub data ServerHappens (A : Type 0) (old : Server) (event : ServerEvent) : Server → Type 0 where

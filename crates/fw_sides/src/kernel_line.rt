@@ -5,8 +5,8 @@ ghost use Rattle.fw_script.specs.Lines.{LineHasWords};
 ghost use Rattle.fw_script.specs.Words.{words_of};
 ghost use Rattle.fw_sides.specs.KernelLines.{SaysEvent, SaysLine};
 
-use crate::kernel_event::KernelEvent;
 use crate::words::first_word;
+use fk_kernel::KernelEvent;
 use fw_script::{Line, LineFault, is_hex_or_none, read_line};
 use fw_world::Event;
 

@@ -9,12 +9,11 @@ ghost use Rattle.fw_sides.specs.KernelRuns.{DoesKernelLine, DoesKernelLines, Ker
 
 use crate::form::Form;
 use crate::input::{End, next_line};
-use crate::kernel_event::{KernelEvent, step_kernel};
 use crate::kernel_line::{KernelLine, read_kernel_line};
 use crate::kernel_text::print_kernel_step;
 use crate::nodes_text::print_nodes;
 use crate::refusal_text::{print_line_fault, print_refusal};
-use fk_kernel::{Call, KernelOf};
+use fk_kernel::{Call, KernelEvent, KernelOf};
 use fk_lookup_count::CountTable;
 use fk_queues::QueueTable;
 use fuse_spec::{Purpose, Refusal};
@@ -32,7 +31,7 @@ fn run_event<Q: QueueTable<Purpose> + Drop, C: CountTable<Heap = Q::Heap> + Drop
 ) -> Result<(), OutputRefused>
     ensures { OnOk result (KernelHappens Q.Heap kernel.old event.now kernel.new) }
 {
-    match step_kernel(kernel, event) {
+    match kernel.step(event) {
         Ok(step) => print_kernel_step(out, form, &step, kernel),
         Err(refusal) => print_refusal(out, form, refusal),
     }

@@ -5,9 +5,8 @@ ghost use Rattle.fw_sides.specs.KernelRuns.{all_collected};
 
 use crate::answer_text::print_answer;
 use crate::form::{Form, Printer};
-use crate::kernel_event::KernelStep;
 use crate::refusal_text::result_number;
-use fk_kernel::{Answer, KernelOf};
+use fk_kernel::{Answer, KernelOf, KernelStep};
 use fk_lookup_count::CountTable;
 use fk_queues::QueueTable;
 use fuse_frames::RequestFrame;

@@ -1,16 +1,14 @@
-//! The kernel and the server, each by itself: one event after another, and the lines in which another program says them.
+//! The kernel and the server, each by itself: the lines in which another program says its events, one after another.
 #![tactic(auto)]
 
 mod answer_text;
 mod form;
 mod input;
-mod kernel_event;
 mod kernel_line;
 mod kernel_process;
 mod kernel_text;
 mod nodes_text;
 mod refusal_text;
-mod server_event;
 mod server_line;
 mod server_process;
 mod server_text;
@@ -18,9 +16,7 @@ mod words;
 
 pub use form::Form;
 pub use input::End;
-pub use kernel_event::{KernelEvent, KernelStep, step_kernel};
 pub use kernel_line::{KernelLine, read_kernel_line};
 pub use kernel_process::run_kernel;
-pub use server_event::{ServerEvent, ServerRefused, ServerStep, step_server};
 pub use server_line::{ServerLine, read_server_line};
 pub use server_process::run_server;

@@ -5,8 +5,8 @@ ghost use Rattle.fw_script.specs.Lines.{LineHasWords};
 ghost use Rattle.fw_script.specs.Words.{words_of};
 ghost use Rattle.fw_sides.specs.ServerLines.{SaysServerEvent, SaysServerLine, settled_number};
 
-use crate::server_event::ServerEvent;
 use crate::words::{first_word, two_words};
+use fs_server::ServerEvent;
 use fw_script::{Line, LineFault, is_hex_or_none, read_line, read_number};
 use fw_world::{Event, WriteResult};
 

@@ -10,10 +10,9 @@ use crate::form::Form;
 use crate::input::{End, next_line};
 use crate::nodes_text::print_nodes;
 use crate::refusal_text::{print_line_fault, print_refusal};
-use crate::server_event::{ServerEvent, step_server};
 use crate::server_line::{ServerLine, read_server_line};
 use crate::server_text::{print_server_refused, print_server_step};
-use fs_server::{NodeStore, ServerOf};
+use fs_server::{NodeStore, ServerEvent, ServerOf};
 use fuse_spec::Refusal;
 use fw_script::{OutputRefused, is_passed_over, read_hex_or_none};
 use fw_world::{Maps, Tables};
@@ -29,7 +28,7 @@ fn run_event<S: NodeStore, W: Write>(
 ) -> Result<(), OutputRefused>
     ensures { OnOk result (ServerHappens S.Heap server.old event.now server.new) }
 {
-    match step_server(server, event) {
+    match server.step(event) {
         Ok(step) => print_server_step(out, form, &step),
         Err(refused) => print_server_refused(out, form, refused),
     }

@@ -2,8 +2,7 @@
 
 use crate::form::{Form, Printer};
 use crate::refusal_text::{print_refusal, result_number};
-use crate::server_event::{ServerRefused, ServerStep};
-use fs_server::{Done, ServerFault, Taken};
+use fs_server::{Done, ServerFault, ServerRefused, ServerStep, Taken};
 use fuse_frames::Sent;
 use fw_script::OutputRefused;
 use std::alloc::Allocator;

@@ -7,7 +7,7 @@ use Rattle.fw_sides.proofs.kernel_process.run_event.Goals as goal
 pub returns-in-Ok : goal.returns-in-Ok
 returns-in-Ok g c = on_ok_weaker c.print_kernel_step.result
     (λ e. subst (KernelHappens _ c.args.kernel.now c.args.event.now) (sym e)
-    (accepted c.in-Ok.step c.step_kernel.new.kernel c.in-Ok.ensures.does)) c.print_kernel_step.ensures
+    (accepted c.in-Ok.step c.step.new.self c.in-Ok.ensures.does)) c.print_kernel_step.ensures
 
 pub returns-in-Err : goal.returns-in-Err
 returns-in-Err g c = whatever c.print_refusal.result

@@ -5,7 +5,7 @@ use Rattle.fw_sides.proofs.server_process.run_event.Goals as goal
 
 pub returns-in-Ok : goal.returns-in-Ok
 returns-in-Ok g c = whatever c.print_server_step.result
-    (accepted c.in-Ok.step c.step_server.new.server c.in-Ok.ensures.does)
+    (accepted c.in-Ok.step c.step.new.self c.in-Ok.ensures.does)
 
 pub returns-in-Err : goal.returns-in-Err
 returns-in-Err g c = whatever c.print_server_refused.result

@@ -1,4 +1,4 @@
--- What an event makes of a kernel whose server is another program, and why it is refused.
+-- What an event makes of the kernel, and why it is refused.
 use Rattle.std.specs.Prelude.{◌≡◌, ◌⊎◌, ◌+◌, ℕ, List, Option, Some, None}
 use Rattle.fuse_spec.specs.declared.Counted.{Counted}
 use Rattle.fuse_spec.specs.declared.Refusal.{Refusal}
@@ -12,10 +12,10 @@ use Rattle.fk_syscalls.specs.Values.{call_of}
 use Rattle.fk_kernel.specs.AwaitedReplies.{HasReplyHead, IsReplyWritten, awaited, head_unique, nothing}
 use Rattle.fk_kernel.specs.Picks.{IsPicked, after_pick, pick_refusal}
 use Rattle.fk_kernel.specs.Refused.{IsSignalled, WriteRefused, abort_refusal, begin_refusal, drop_refusal, evict_refusal, mount_refusal, signal_refusal, tick_refusal}
-use Rattle.fw_sides.specs.declared.kernel_event.KernelEvent.{KernelEvent}
-use Rattle.fw_sides.specs.declared.kernel_event.KernelEvent.TheVariants as event
-use Rattle.fw_sides.specs.declared.kernel_event.KernelStep.{KernelStep}
-use Rattle.fw_sides.specs.declared.kernel_event.KernelStep.TheVariants as step
+use Rattle.fk_kernel.specs.declared.step.KernelEvent.{KernelEvent}
+use Rattle.fk_kernel.specs.declared.step.KernelEvent.TheVariants as event
+use Rattle.fk_kernel.specs.declared.step.KernelStep.{KernelStep}
+use Rattle.fk_kernel.specs.declared.step.KernelStep.TheVariants as step
 
 -- Bytes are written as a reply. What has no reply's head, and what nothing awaits, changes nothing.
 pub record TakesReply (old : Kernel) (bytes : List ℕ) (result : WriteResult) (new : Kernel) : Type 0 where

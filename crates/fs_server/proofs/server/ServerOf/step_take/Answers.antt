@@ -2,7 +2,7 @@ use Rattle.std.proofs.Common.{ℕ, List, subst}
 use Rattle.std.specs.Prelude.{MatchOption}
 use Rattle.fuse_spec.specs.Server.Server.{Server}
 use Rattle.fs_server.specs.Faults.{IsAnswerable, IsFaultReply}
-use Rattle.fw_sides.proofs.server_event.take.Goals as goal
+use Rattle.fs_server.proofs.server.ServerOf.step_take.Goals as goal
 
 pub returns-in-Err-clause-refused : goal.returns-in-Err-clause-refused
 returns-in-Err-clause-refused g c = record {

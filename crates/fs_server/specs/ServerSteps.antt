@@ -1,4 +1,4 @@
--- What an event makes of a server whose kernel is another program, and why it is refused.
+-- What an event makes of the server, and why it is refused.
 use Rattle.std.specs.Prelude.{◌≡◌, ◌⊎◌, ◌<◌, ◌≤◌, ℕ, List, MatchOption, Option, Some, None}
 use Rattle.fuse_spec.specs.declared.Minor.{Minor}
 use Rattle.fuse_spec.specs.declared.Refusal.{Refusal}
@@ -12,12 +12,12 @@ use Rattle.fs_server.specs.Faults.{IsAnswerable, IsFaultReply}
 use Rattle.fs_server.specs.Steps.{CanPerform}
 use Rattle.fs_server.specs.declared.server.ServerFault.{ServerFault}
 use Rattle.fs_server.specs.declared.server.ServerFault.TheVariants.{Memory}
-use Rattle.fw_sides.specs.declared.server_event.ServerEvent.{ServerEvent}
-use Rattle.fw_sides.specs.declared.server_event.ServerEvent.TheVariants as event
-use Rattle.fw_sides.specs.declared.server_event.ServerStep.{ServerStep}
-use Rattle.fw_sides.specs.declared.server_event.ServerStep.TheVariants as step
-use Rattle.fw_sides.specs.declared.server_event.ServerRefused.{ServerRefused}
-use Rattle.fw_sides.specs.declared.server_event.ServerRefused.TheVariants as refused
+use Rattle.fs_server.specs.declared.step.ServerEvent.{ServerEvent}
+use Rattle.fs_server.specs.declared.step.ServerEvent.TheVariants as event
+use Rattle.fs_server.specs.declared.step.ServerStep.{ServerStep}
+use Rattle.fs_server.specs.declared.step.ServerStep.TheVariants as step
+use Rattle.fs_server.specs.declared.step.ServerRefused.{ServerRefused}
+use Rattle.fs_server.specs.declared.step.ServerRefused.TheVariants as refused
 
 -- An accepted event results in this step, and makes this of the server.
 abbrev pub ServerDoes : {A : Type 0} → Server → ServerEvent → ServerStep A → Server → Type 0
