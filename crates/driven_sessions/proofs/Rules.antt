@@ -2,6 +2,9 @@
 use Rattle.std.proofs.Common.{Bool, List}
 use Rattle.fuse_device.specs.Transfers.{Transfer}
 use Rattle.fk_drive.specs.Driving.{Driven, DrivesOver, first_driven}
+use Rattle.fk_drive_theorem.proofs.RunsAnswer.{run_once}
+use Rattle.fk_drive_theorem.proofs.RunsTake.{run_none_again, run_takes_once}
+use Rattle.fk_drive_theorem.proofs.RunsTally.{run_forgets}
 use Rattle.driven_sessions.specs.Rules.{KeepsRules}
 use Rattle.driven_sessions.proofs.BeforeInit.{early_requests_never}
 use Rattle.driven_sessions.proofs.Forgotten.{empty_forgets_never}
@@ -35,4 +38,9 @@ keeps_rules logs before after asks (new, (log, over, run)) = record {
   early_requests = early_requests_never asks log new run;
   large_forgets = large_forgets_never asks log new run;
   uncounted_nodes = uncounted_never asks log new run;
+  answered_once = λ mid rest after. run_once mid rest new after;
+  none_again = λ mid rest after no_mount. run_none_again mid rest new after no_mount;
+  taken_once = λ first old was number mid takes rest after no_mount.
+      run_takes_once asks first old was number mid takes rest new after no_mount;
+  forgotten_as_gathered = λ node low. run_forgets node low asks log new run;
 }

@@ -1,12 +1,15 @@
 -- The rules that a kernel keeps as it is driven over a device.
-use Rattle.std.specs.Prelude.{Bool, List}
+use Rattle.std.specs.Prelude.{◌≡◌, ◌≤◌, ℕ, Bool, List}
 use Rattle.fuse_device.specs.Transfers.{Transfer}
 use Rattle.fk_drive.specs.Driving.{Driven, Drives, first_driven}
+use Rattle.fk_drive_theorem.specs.AnsweredOnce.{AnsweredOnce}
+use Rattle.fk_drive_theorem.specs.TakenOnce.{NoneAgain, TakesNone, TakesReplyTo, mounts_in}
+use Rattle.fk_drive_theorem.specs.Tallies.{ForgottenAsGathered, tally_of}
 use Rattle.driven_sessions.specs.Driven.{IsFreeOf, IsFreeWhereCarried, IsFreeWhereTaken, IsFreeWhereTakenAndCarried, IsOneMount}
 use Rattle.driven_sessions.specs.Groups.{is_of_early_requests, is_of_empty_forgets, is_of_interrupt_numbers, is_of_large_forgets, is_of_large_writes, is_of_late_inits, is_of_odd_numbers, is_of_one_thread, is_of_resends, is_of_shapes, is_of_uncounted_nodes, is_of_used_numbers}
 
--- From the one state of a device to the other a run drove a kernel over it, and no session of what went over the device
--- shows a fault of these groups.
+-- From the one state of a device to the other a run drove a kernel over it, no session of what went over the device shows a
+-- fault of these groups, and the laws of driven runs hold of it.
 pub record KeepsRules {D : Type 0} (logs : D → D → List Transfer → Type 0) (before after : D) (asks : Bool) : Type 0 where
   pub new : Driven
   pub log : List Transfer
@@ -28,3 +31,13 @@ pub record KeepsRules {D : Type 0} (logs : D → D → List Transfer → Type 0)
   -- where that is so, each agreement carries the codec's frames, and the kernel mounts once
   pub large_forgets : IsOneMount run → IsFreeWhereTakenAndCarried is_of_large_forgets run
   pub uncounted_nodes : IsOneMount run → IsFreeWhereTakenAndCarried is_of_uncounted_nodes run
+  -- A call that was over in any run to this end is over, and has no other answer.
+  pub answered_once : (mid : Driven) (rest : List Transfer) → Drives mid rest new → AnsweredOnce mid.kernel.vfs new.kernel.vfs
+  -- Without a mount since, a number under which no request waited has none, and no reply to one that was answered is taken.
+  pub none_again : (mid : Driven) (rest : List Transfer) (after : Drives mid rest new) → mounts_in after ≡ 0
+      → NoneAgain mid.kernel new.kernel
+  pub taken_once : (first : List Transfer) (old : Driven) → Drives (first_driven asks) first old → (number : ℕ) (mid : Driven)
+      → TakesReplyTo number old.kernel mid.kernel → (rest : List Transfer) (after : Drives mid rest new)
+      → mounts_in after ≡ 0 → TakesNone number new.kernel
+  -- A node other than the root is forgotten with exactly the count that was gathered.
+  pub forgotten_as_gathered : (node : ℕ) → 2 ≤ node → ForgottenAsGathered node new.kernel (tally_of node run)
