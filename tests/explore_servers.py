@@ -28,7 +28,7 @@ WAIT = 2000  # milliseconds, for a reply
 EVENTS = 400
 SECONDS = 120  # the longest run
 FINDING = re.compile(r"^# (frame \d+: (?:server|kernel|device|warning): .*|reply to nothing.*|second reply.*|body is not .*|no reply.*"
-                     r"|node \d+ (?:under|given) .*|the root given .*|server ended|device failed.*|differs: .*)$")
+                     r"|node \d+ (?:under|given) .*|the root given .*|server ended|device failed.*|differs: answer .*)$")
 
 
 def kind_of(finding):

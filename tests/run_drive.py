@@ -750,6 +750,20 @@ def on_packets(words):
     return lines, run.returncode
 
 
+def at_once(lines):
+    """The calls of a run that began while others were under way, in each group of which an answer differs."""
+    waiting, group, groups = set(), [], []
+    for line in lines:
+        if begun := re.match(r"# call (\d+)$", line):
+            group = [*group, begun[1]] if waiting else [begun[1]]
+            waiting.add(begun[1])
+        elif answered := re.match(r"# answer (\d+) ", line):
+            waiting.discard(answered[1])
+        elif line.startswith("# differs: answer ") and len(group) > 1 and groups[-1:] != [group]:
+            groups.append(group)
+    return groups
+
+
 def run_random():
     """One seed is one run, what is printed runs again, and a bug is found."""
     words = ["--random", "--seed", "1", "--events", "80"]
@@ -764,6 +778,9 @@ def run_random():
           runs[0][0].count("call list / 0") > runs[1][0].count("call list / 0")), ([0, 0], 2, True))
     lines, status, _ = on_server(words, [], bug="reply twice")
     judge("a seed: a bug is found", (status, any(FAULTS.search(line) for line in lines)), (6, True))
+    lines, status, _ = on_server(["--random", "--seed", "4", "--events", "200"], [], bug="another file")
+    groups = [re.findall(r"\d+", line) for line in lines if line.startswith("# differs: no order of calls ")]
+    judge("a seed: calls at once that are in no order", (status, len(groups) > 1, groups), (6, True, at_once(lines)))
 
 
 for part in (run_bugs, run_otherwise, run_fields, run_frames, run_abort, run_closings, run_agreements, run_opendir, run_opendir_bugs, run_releasedir, run_many, run_talking, run_refusals, run_waits, run_words, run_input, run_packets, run_trace, run_check, run_names, run_expanded, run_json, run_random):

@@ -290,20 +290,42 @@ impl<A: Allocator + Copy> Group<A> {
         Ok(())
     }
 
+    /// Appends which calls have their answers in no order, where there are several.
+    fn put_no_order(&self, said: &mut Vec<u8, A>) -> Result<(), NoLine> {
+        let count = self.calls.len();
+        if count < 2 {
+            return Ok(());
+        }
+        put(said, b"differs: no order of calls ")?;
+        for (place, called) in self.calls.as_slice().iter().enumerate() {
+            if place + 1 == count {
+                put(said, b" and ")?;
+            } else if place > 0 {
+                put(said, b", ")?;
+            }
+            put_number(said, called.number)?;
+        }
+        put(said, b" gives these answers\n")
+    }
+
     /// Compares the answers with those of the world beside. Appends what is to be said of each that is in no order of the calls
-    /// that one.
+    /// that one, and then of the calls.
     pub(crate) fn judge(
         &mut self,
         beside: &mut Beside<A>,
         said: &mut Vec<u8, A>,
     ) -> Result<(), NoLine> {
-        if !self.has_change() {
-            return self.judge_readers(beside, true, said);
+        let before = said.len();
+        if self.has_change() {
+            self.judge_readers(beside, false, said)?;
+            self.note_change();
+            self.judge_changes(beside, said)?;
         }
-        self.judge_readers(beside, false, said)?;
-        self.note_change();
-        self.judge_changes(beside, said)?;
-        self.judge_readers(beside, true, said)
+        self.judge_readers(beside, true, said)?;
+        if said.len() > before {
+            self.put_no_order(said)?;
+        }
+        Ok(())
     }
 }
 
