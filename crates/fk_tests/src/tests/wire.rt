@@ -38,15 +38,30 @@ fn written(alloc: Global, written: Result<(), WireFault>, out: &[u8], row: Row) 
     }
 }
 
+/// Whether a request has the size and the opcode that its frame says (`struct fuse_in_header`).
+fn has_its_head(minor: Minor, request: &Request<'_>, bytes: &[u8]) -> bool {
+    let opcode = request.body.opcode();
+    is_known(minor, opcode)
+        && request_size(minor, request) == Ok(bytes.len())
+        && bytes.get(4..8) == Some(opcode.code().to_le_bytes().as_slice())
+}
+
 /// Writes back what was read of a request.
 fn request_written<A: Allocator>(
     out: &mut Vec<u8, A>,
     minor: Option<Minor>,
     bytes: &[u8],
 ) -> Result<(), WireFault> {
+    let request = match minor {
+        Some(minor) => read_request_at(minor, bytes)?,
+        None => read_request(bytes)?,
+    };
+    if !has_its_head(minor.unwrap_or(Minor::M31), &request, bytes) {
+        return Err(WireFault::Length);
+    }
     match minor {
-        Some(minor) => write_request_at(minor, out, &read_request_at(minor, bytes)?),
-        None => write_request(out, &read_request(bytes)?),
+        Some(minor) => write_request_at(minor, out, &request),
+        None => write_request(out, &request),
     }
 }
 
