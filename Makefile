@@ -146,6 +146,7 @@ rows: build
 docs:
 	@python3 tests/check_docs.py
 	@python3 tests/check_runs.py
+	@python3 tests/test_rows.py --check
 	@python3 tests/man_pages.py --check
 	@if [ -x "$(BUILT)" ]; then FUSEWORLD="$(BUILT)" python3 tests/run_tutorial.py; else echo "skipped: their commands, as no program is built"; fi
 
@@ -156,8 +157,9 @@ fmt:
 test:
 	@python3 tests/check_docs.py
 	@python3 tests/check_runs.py
+	@python3 tests/test_rows.py --check
 	@python3 tests/man_pages.py --check
-	@log=$$(mktemp); RT_JOBS=$$(nproc) rt ci > "$$log" 2>&1; status=$$?; cat "$$log"; \
+	@log=$$(mktemp); rt ci > "$$log" 2>&1; status=$$?; cat "$$log"; \
 		if [ $$status = 0 ]; then sh tests/run_rows.sh; status=$$?; fi; \
 		if [ $$status = 0 ]; then sh tests/run_frames.sh; status=$$?; fi; \
 		if [ $$status = 0 ]; then sh tests/run_check.sh; status=$$?; fi; \

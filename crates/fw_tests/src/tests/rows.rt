@@ -12,8 +12,8 @@ pub(super) const STAT_OF_ROOT: Row = Row {
     name: "stat-of-root",
     script: "mount 1000 0\nread p 0\ntake 0\ndo 2\nwrite 0\nsettle 0\ncall stat /\nread p 0\ntake 0\ndo 4\nwrite 0\n\
             settle 0\n",
-    output: "mounted\nread 2 INIT 56\ntaken 2 held\ndone 2 0 80\nwritten 2 0\nsettled 2 0\ncall 1\n\
-            read 4 GETATTR 56\ntaken 4 held\ndone 4 0 120\nwritten 4 0\nanswer 1 0 dir 1 0 1\nsettled 4 0\n",
+    output: "mounted\nread 2 INIT 56\ntaken 2 held\ndone 2 0 80\nwritten 2 0\nsettled 2 0\ncall 1\nread 4 GETATTR 56\n\
+            taken 4 held\ndone 4 0 120\nwritten 4 0\nanswer 1 0 dir 1 0 1\nsettled 4 0\n",
 };
 
 static FIRST: [Row; 8] = [
@@ -26,15 +26,15 @@ static FIRST: [Row; 8] = [
         output: "mounted\nread 2 INIT 56\ntaken 2 held\ndone 2 0 80\nwritten 2 0\nsettled 2 0\ncall 1\ncall 2\n\
             read 4 MKDIR 50\ntaken 4 held\ndone 4 0 144\naborted\nanswer 1 103\nanswer 2 103\ncall 3\nanswer 3 107\n\
             refused 4 NotReady\nrefused 2 NoSuch\nrefused 6 NoCopy\nmounted\nread 2 INIT 56\ntaken 2 held\n\
-            done 2 0 80\nwritten 2 0\nsettled 2 0\ncall 4\nread 4 LOOKUP 42\ntaken 4 held\ndone 4 0 144\n\
-            written 4 0\nsettled 4 0\nread 6 GETATTR 56\ntaken 6 held\ndone 6 0 120\nwritten 6 0\n\
-            answer 4 0 dir 2 0 1\nsettled 6 0\nkernel 2:2:1\nserver 2:2:1\n",
+            done 2 0 80\nwritten 2 0\nsettled 2 0\ncall 4\nread 4 LOOKUP 42\ntaken 4 held\ndone 4 0 144\nwritten 4 0\n\
+            settled 4 0\nread 6 GETATTR 56\ntaken 6 held\ndone 6 0 120\nwritten 6 0\nanswer 4 0 dir 2 0 1\n\
+            settled 6 0\nkernel 2:2:1\nserver 2:2:1\n",
     },
     Row {
         name: "batch-forget",
         script: "mount 1000 0\nread p 0\ntake 0\ndo 2\nwrite 0\nsettle 0\ncall mkdir /a\nread p 0\ntake 0\ndo 4\n\
-            write 0\nsettle 0\ncall mkdir /b\nread p 0\ntake 0\ndo 6\nwrite 0\nsettle 0\ndrop 1 a\ndrop 1 b\n\
-            evict 2\nevict 3\nread f 65\nread f 2\ntake 0\n",
+            write 0\nsettle 0\ncall mkdir /b\nread p 0\ntake 0\ndo 6\nwrite 0\nsettle 0\ndrop 1 a\ndrop 1 b\nevict 2\n\
+            evict 3\nread f 65\nread f 2\ntake 0\n",
         output: "mounted\nread 2 INIT 56\ntaken 2 held\ndone 2 0 80\nwritten 2 0\nsettled 2 0\ncall 1\n\
             read 4 MKDIR 50\ntaken 4 held\ndone 4 0 144\nwritten 4 0\nanswer 1 0\nsettled 4 0\ncall 2\n\
             read 6 MKDIR 50\ntaken 6 held\ndone 6 0 144\nwritten 6 0\nanswer 2 0\nsettled 6 0\ndropped\ndropped\n\
@@ -72,8 +72,8 @@ static FIRST: [Row; 8] = [
         name: "counts-of-two-lookups-and-exact-forget",
         script: "mount 1000 0\nread p 0\ntake 0\ndo 2\nwrite 0\nsettle 0\ncall mkdir /a\nread p 0\ntake 0\ndo 4\n\
             write 0\nsettle 0\ntick 1000\ncall stat /a\ncall stat /a\nread p 0\ntake 0\ndo 6\nwrite 0\nsettle 0\n\
-            read p 0\ntake 0\ndo 8\nwrite 0\nsettle 0\nevict 2\nread p 0\ntake 0\ndo 10\nwrite 0\nsettle 0\n\
-            read p 0\ntake 0\ndo 12\nwrite 0\nsettle 0\nshow\ndrop 1 a\nevict 2\nread f 1\ntake 0\nshow\n",
+            read p 0\ntake 0\ndo 8\nwrite 0\nsettle 0\nevict 2\nread p 0\ntake 0\ndo 10\nwrite 0\nsettle 0\nread p 0\n\
+            take 0\ndo 12\nwrite 0\nsettle 0\nshow\ndrop 1 a\nevict 2\nread f 1\ntake 0\nshow\n",
         output: "mounted\nread 2 INIT 56\ntaken 2 held\ndone 2 0 80\nwritten 2 0\nsettled 2 0\ncall 1\n\
             read 4 MKDIR 50\ntaken 4 held\ndone 4 0 144\nwritten 4 0\nanswer 1 0\nsettled 4 0\nnow 1000\ncall 2\n\
             call 3\nread 6 LOOKUP 42\ntaken 6 held\ndone 6 0 144\nwritten 6 0\nsettled 6 0\nread 8 LOOKUP 42\n\
@@ -124,13 +124,13 @@ static SECOND: [Row; 8] = [
     Row {
         name: "interrupt-mark-belongs-to-the-request",
         script: "mount 1000 0\nread p 0\ntake 0\ndo 2\nwrite 0\nsettle 0\ncall mkdir /a\nread p 0\ntake 0\ndo 4\n\
-            write 0\nsettle 0\ntick 1000\ncall stat /a\nread p 0\ntake 0\ndo 6\nintr 2 soft\nread i\ntake 0\n\
-            write 0\nintr 2 soft\nread p 0\nread i\ntake 0\ntake 0\ndo 8\nwrite 0\n",
+            write 0\nsettle 0\ntick 1000\ncall stat /a\nread p 0\ntake 0\ndo 6\nintr 2 soft\nread i\ntake 0\nwrite 0\n\
+            intr 2 soft\nread p 0\nread i\ntake 0\ntake 0\ndo 8\nwrite 0\n",
         output: "mounted\nread 2 INIT 56\ntaken 2 held\ndone 2 0 80\nwritten 2 0\nsettled 2 0\ncall 1\n\
             read 4 MKDIR 50\ntaken 4 held\ndone 4 0 144\nwritten 4 0\nanswer 1 0\nsettled 4 0\nnow 1000\ncall 2\n\
-            read 6 LOOKUP 42\ntaken 6 held\ndone 6 0 144\ninterrupted 2 queued\nread 7 INTERRUPT 48\n\
-            taken 7 ignored\nwritten 6 0\ninterrupted 2 flagged\nread 8 GETATTR 56\nread 9 INTERRUPT 48\n\
-            taken 8 held\ntaken 9 marked\ndone 8 4 16\nwritten 8 0\nanswer 2 4\n",
+            read 6 LOOKUP 42\ntaken 6 held\ndone 6 0 144\ninterrupted 2 queued\nread 7 INTERRUPT 48\ntaken 7 ignored\n\
+            written 6 0\ninterrupted 2 flagged\nread 8 GETATTR 56\nread 9 INTERRUPT 48\ntaken 8 held\ntaken 9 marked\n\
+            done 8 4 16\nwritten 8 0\nanswer 2 4\n",
     },
     Row {
         name: "link-counts-the-same-node",
@@ -158,11 +158,10 @@ static SECOND: [Row; 8] = [
         name: "lookup-frame-in-hex",
         script: "mount 1000 0\nread p 0\ntake 0\ndo 2\nwrite 0\nsettle 0\ncall stat /a\nread p 0\n",
         output: "mounted\nread 2 INIT 56\n\
-            frame 380000001a0000000200000000000000000000000000000000000000000000000000000000000000070000001f00000000\
-            00000001200400\ntaken 2 held\ndone 2 0 80\n\
-            frame 50000000000000000200000000000000070000001f00000000000000012004000000000000100000010000000000000000\
-            00000000000000000000000000000000000000000000000000000000000000\nwritten 2 0\nsettled 2 0\ncall 1\n\
-            read 4 LOOKUP 42\n\
+            frame 380000001a0000000200000000000000000000000000000000000000000000000000000000000000070000001f0000000000000001200400\n\
+            taken 2 held\ndone 2 0 80\n\
+            frame 50000000000000000200000000000000070000001f0000000000000001200400000000000010000001000000000000000000000000000000000000000000000000000000000000000000000000000000\n\
+            written 2 0\nsettled 2 0\ncall 1\nread 4 LOOKUP 42\n\
             frame 2a0000000100000004000000000000000100000000000000000000000000000000000000000000006100\n",
     },
     Row {
@@ -170,8 +169,8 @@ static SECOND: [Row; 8] = [
         script: "mount 1000 0\nread p 0\ntake 0\ndo 2\nwrite 0\nsettle 0\ncall create /f\nread p 0\ntake 0\ndo 4\n\
             write 0\nsettle 0\ncall stat /f/x\nread p 0\ntake 0\ndo 6\nwrite 0\nsettle 0\ncall open /f\nread p 0\n\
             take 0\ndo 8\nwrite 0\nsettle 0\ncall close 1\nread p 0\ntake 0\ndo 10\nwrite 0\nsettle 0\n\
-            call write 3 3 ff\nread p 0\ntake 0\ndo 12\nwrite 0\nsettle 0\ncall read 3 0 10\nread p 0\ntake 0\n\
-            do 14\nwrite 0\nsettle 0\n",
+            call write 3 3 ff\nread p 0\ntake 0\ndo 12\nwrite 0\nsettle 0\ncall read 3 0 10\nread p 0\ntake 0\ndo 14\n\
+            write 0\nsettle 0\n",
         output: "mounted\nread 2 INIT 56\ntaken 2 held\ndone 2 0 80\nwritten 2 0\nsettled 2 0\ncall 1\n\
             read 4 CREATE 58\ntaken 4 held\ndone 4 0 160\nwritten 4 0\nanswer 1 0\nsettled 4 0\ncall 2\n\
             read 6 LOOKUP 42\ntaken 6 held\ndone 6 20 16\nwritten 6 0\nanswer 2 20\nsettled 6 0\ncall 3\n\
@@ -194,12 +193,9 @@ static THIRD: [Row; 7] = [
     Row {
         name: "name-lengths-and-path-faults",
         script: "mount 1000 0\nread p 0\ntake 0\ndo 2\nwrite 0\nsettle 0\n\
-            call stat /nnnnnnnnnnnnnnnnnnnnnnnnnnnnnnnnnnnnnnnnnnnnnnnnnnnnnnnnnnnnnnnnnnnnnnnnnnnnnnnnnnnnnnnnnnnnn\
-            nnnnnnnnnnnnnnnnnnnnnnnnnnnnnnnnnnnnnnnnnnnnnnnnnnnnnnnnnnnnnnnnnnnnnnnnnnnnnnnnnnnnnnnnnnnnnnnnnnnnnnnn\
-            nnnnnnnnnnnnnnnnnnnnnnnnnnnnnnnnnnnnnnnnnnnnnnnnnnnnnnnnnn\n\
-            call stat /nnnnnnnnnnnnnnnnnnnnnnnnnnnnnnnnnnnnnnnnnnnnnnnnnnnnnnnnnnnnnnnnnnnnnnnnnnnnnnnnnnnnnnnnnnnnn\
-            nnnnnnnnnnnnnnnnnnnnnnnnnnnnnnnnnnnnnnnnnnnnnnnnnnnnnnnnnnnnnnnnnnnnnnnnnnnnnnnnnnnnnnnnnnnnnnnnnnnnnnnn\
-            nnnnnnnnnnnnnnnnnnnnnnnnnnnnnnnnnnnnnnnnnnnnnnnnnnnnnnnnnnn\ncall stat /a//b\nread p 0\nread p 0\n",
+            call stat /nnnnnnnnnnnnnnnnnnnnnnnnnnnnnnnnnnnnnnnnnnnnnnnnnnnnnnnnnnnnnnnnnnnnnnnnnnnnnnnnnnnnnnnnnnnnnnnnnnnnnnnnnnnnnnnnnnnnnnnnnnnnnnnnnnnnnnnnnnnnnnnnnnnnnnnnnnnnnnnnnnnnnnnnnnnnnnnnnnnnnnnnnnnnnnnnnnnnnnnnnnnnnnnnnnnnnnnnnnnnnnnnnnnnnnnnnnnnnnnnnnnnnnnnnnnnnnn\n\
+            call stat /nnnnnnnnnnnnnnnnnnnnnnnnnnnnnnnnnnnnnnnnnnnnnnnnnnnnnnnnnnnnnnnnnnnnnnnnnnnnnnnnnnnnnnnnnnnnnnnnnnnnnnnnnnnnnnnnnnnnnnnnnnnnnnnnnnnnnnnnnnnnnnnnnnnnnnnnnnnnnnnnnnnnnnnnnnnnnnnnnnnnnnnnnnnnnnnnnnnnnnnnnnnnnnnnnnnnnnnnnnnnnnnnnnnnnnnnnnnnnnnnnnnnnnnnnnnnnnnn\n\
+            call stat /a//b\nread p 0\nread p 0\n",
         output: "mounted\nread 2 INIT 56\ntaken 2 held\ndone 2 0 80\nwritten 2 0\nsettled 2 0\ncall 1\ncall 2\n\
             answer 2 36\ncall 3\nanswer 3 22\nread 4 LOOKUP 296\nrefused 2 NoSuch\n",
     },
@@ -261,8 +257,8 @@ static FOURTH: [Row; 7] = [
         script: "mount 1000 0\nread p 0\ntake 0\ndo 2\nwrite 0\nsettle 0\ncall mkdir /a\nread p 0\ntake 0\ndo 4\n\
             write 0\nsettle 0\ncall mkdir /a/b\nread p 0\ntake 0\ndo 6\nwrite 0\nsettle 0\ncall rename /a /a/b/c\n\
             read p 0\ntake 0\ndo 8\nwrite 0\nsettle 0\ncall rmdir /a\nread p 0\ntake 0\ndo 10\nwrite 0\nsettle 0\n\
-            call unlink /a\nread p 0\ntake 0\ndo 12\nwrite 0\nsettle 0\ncall rename /a/b /c\nread p 0\ntake 0\n\
-            do 14\nwrite 0\nsettle 0\n",
+            call unlink /a\nread p 0\ntake 0\ndo 12\nwrite 0\nsettle 0\ncall rename /a/b /c\nread p 0\ntake 0\ndo 14\n\
+            write 0\nsettle 0\n",
         output: "mounted\nread 2 INIT 56\ntaken 2 held\ndone 2 0 80\nwritten 2 0\nsettled 2 0\ncall 1\n\
             read 4 MKDIR 50\ntaken 4 held\ndone 4 0 144\nwritten 4 0\nanswer 1 0\nsettled 4 0\ncall 2\n\
             read 6 MKDIR 50\ntaken 6 held\ndone 6 0 144\nwritten 6 0\nanswer 2 0\nsettled 6 0\ncall 3\n\
@@ -304,17 +300,17 @@ static FOURTH: [Row; 7] = [
     Row {
         name: "walk-of-two-words-and-expiry",
         script: "mount 500 500\nread p 0\ntake 0\ndo 2\nwrite 0\nsettle 0\ncall mkdir /a\nread p 0\ntake 0\ndo 4\n\
-            write 0\nsettle 0\ncall mkdir /a/b\nread p 0\ntake 0\ndo 6\nwrite 0\nsettle 0\ncall stat /a/b\n\
-            read p 0\ntake 0\ndo 8\nwrite 0\nsettle 0\ncall stat /a/c\nread p 0\ntake 0\ndo 10\nwrite 0\nsettle 0\n\
-            tick 499\ncall stat /a/c\ntick 1\ncall stat /a/c\nread p 0\ntake 0\ndo 12\nwrite 0\nsettle 0\nread p 0\n\
-            take 0\ndo 14\nwrite 0\nsettle 0\n",
+            write 0\nsettle 0\ncall mkdir /a/b\nread p 0\ntake 0\ndo 6\nwrite 0\nsettle 0\ncall stat /a/b\nread p 0\n\
+            take 0\ndo 8\nwrite 0\nsettle 0\ncall stat /a/c\nread p 0\ntake 0\ndo 10\nwrite 0\nsettle 0\ntick 499\n\
+            call stat /a/c\ntick 1\ncall stat /a/c\nread p 0\ntake 0\ndo 12\nwrite 0\nsettle 0\nread p 0\ntake 0\n\
+            do 14\nwrite 0\nsettle 0\n",
         output: "mounted\nread 2 INIT 56\ntaken 2 held\ndone 2 0 80\nwritten 2 0\nsettled 2 0\ncall 1\n\
             read 4 MKDIR 50\ntaken 4 held\ndone 4 0 144\nwritten 4 0\nanswer 1 0\nsettled 4 0\ncall 2\n\
             read 6 MKDIR 50\ntaken 6 held\ndone 6 0 144\nwritten 6 0\nanswer 2 0\nsettled 6 0\ncall 3\n\
             read 8 GETATTR 56\ntaken 8 held\ndone 8 0 120\nwritten 8 0\nanswer 3 0 dir 3 0 1\nsettled 8 0\ncall 4\n\
-            read 10 LOOKUP 42\ntaken 10 held\ndone 10 0 144\nwritten 10 0\nanswer 4 2\nsettled 10 0\nnow 499\n\
-            call 5\nanswer 5 2\nnow 500\ncall 6\nread 12 LOOKUP 42\ntaken 12 held\ndone 12 0 144\nwritten 12 0\n\
-            settled 12 0\nread 14 LOOKUP 42\ntaken 14 held\ndone 14 0 144\nwritten 14 0\nanswer 6 2\nsettled 14 0\n",
+            read 10 LOOKUP 42\ntaken 10 held\ndone 10 0 144\nwritten 10 0\nanswer 4 2\nsettled 10 0\nnow 499\ncall 5\n\
+            answer 5 2\nnow 500\ncall 6\nread 12 LOOKUP 42\ntaken 12 held\ndone 12 0 144\nwritten 12 0\nsettled 12 0\n\
+            read 14 LOOKUP 42\ntaken 14 held\ndone 14 0 144\nwritten 14 0\nanswer 6 2\nsettled 14 0\n",
     },
     Row {
         name: "write-past-the-largest-file",
@@ -368,8 +364,8 @@ static FIFTH: [Row; 3] = [
 static SIXTH: [Row; 1] = [Row {
     name: "listplus-of-thirty-names-in-two-replies",
     script: "mount 1000 0\nread p 0\ntake 0\ndo 2\nwrite 0\nsettle 0\ncall mkdir /d00\nread p 0\ntake 0\ndo 4\n\
-            write 0\nsettle 0\ncall mkdir /d01\nread p 0\ntake 0\ndo 6\nwrite 0\nsettle 0\ncall mkdir /d02\n\
-            read p 0\ntake 0\ndo 8\nwrite 0\nsettle 0\ncall mkdir /d03\nread p 0\ntake 0\ndo 10\nwrite 0\nsettle 0\n\
+            write 0\nsettle 0\ncall mkdir /d01\nread p 0\ntake 0\ndo 6\nwrite 0\nsettle 0\ncall mkdir /d02\nread p 0\n\
+            take 0\ndo 8\nwrite 0\nsettle 0\ncall mkdir /d03\nread p 0\ntake 0\ndo 10\nwrite 0\nsettle 0\n\
             call mkdir /d04\nread p 0\ntake 0\ndo 12\nwrite 0\nsettle 0\ncall mkdir /d05\nread p 0\ntake 0\ndo 14\n\
             write 0\nsettle 0\ncall mkdir /d06\nread p 0\ntake 0\ndo 16\nwrite 0\nsettle 0\ncall mkdir /d07\n\
             read p 0\ntake 0\ndo 18\nwrite 0\nsettle 0\ncall mkdir /d08\nread p 0\ntake 0\ndo 20\nwrite 0\nsettle 0\n\
@@ -419,9 +415,8 @@ static SIXTH: [Row; 1] = [Row {
             written 58 0\nanswer 28 0\nsettled 58 0\ncall 29\nread 60 MKDIR 52\ntaken 60 held\ndone 60 0 144\n\
             written 60 0\nanswer 29 0\nsettled 60 0\ncall 30\nread 62 MKDIR 52\ntaken 62 held\ndone 62 0 144\n\
             written 62 0\nanswer 30 0\nsettled 62 0\ncall 31\nread 64 READDIRPLUS 80\ntaken 64 held\ndone 64 0 4016\n\
-            written 64 0\nanswer 31 0 d00:1:dir d01:2:dir d02:3:dir d03:4:dir d04:5:dir d05:6:dir d06:7:dir \
-            d07:8:dir d08:9:dir d09:10:dir d10:11:dir d11:12:dir d12:13:dir d13:14:dir d14:15:dir d15:16:dir \
-            d16:17:dir d17:18:dir d18:19:dir d19:20:dir d20:21:dir d21:22:dir d22:23:dir d23:24:dir d24:25:dir\n\
+            written 64 0\n\
+            answer 31 0 d00:1:dir d01:2:dir d02:3:dir d03:4:dir d04:5:dir d05:6:dir d06:7:dir d07:8:dir d08:9:dir d09:10:dir d10:11:dir d11:12:dir d12:13:dir d13:14:dir d14:15:dir d15:16:dir d16:17:dir d17:18:dir d18:19:dir d19:20:dir d20:21:dir d21:22:dir d22:23:dir d23:24:dir d24:25:dir\n\
             settled 64 0\ncall 32\nread 66 READDIRPLUS 80\ntaken 66 held\ndone 66 0 816\nwritten 66 0\n\
             answer 32 0 d25:26:dir d26:27:dir d27:28:dir d28:29:dir d29:30:dir\nsettled 66 0\ncall 33\n\
             read 68 READDIRPLUS 80\ntaken 68 held\ndone 68 0 16\nwritten 68 0\nanswer 33 0\nsettled 68 0\n",
@@ -438,8 +433,7 @@ static LONG: [Row; 2] = [
             call stat /\ncall stat /\ncall stat /\ncall stat /\ncall stat /\ncall stat /\ncall stat /\ncall stat /\n\
             call stat /\ncall stat /\ncall stat /\ncall stat /\ncall stat /\ncall stat /\ncall stat /\ncall stat /\n\
             call stat /\ncall stat /\ncall stat /\ncall stat /\ncall stat /\ncall stat /\ncall stat /\ncall stat /\n\
-            call stat /\ncall stat /\ncall stat /\ncall stat /\ncall stat /\ncall stat /\nread p 0\ntake 0\n\
-            read p 0\ntake 0\nread p 0\ntake 0\nread p 0\ntake 0\nread p 0\ntake 0\nread p 0\ntake 0\nread p 0\n\
+            call stat /\ncall stat /\ncall stat /\ncall stat /\ncall stat /\ncall stat /\nread p 0\ntake 0\nread p 0\n\
             take 0\nread p 0\ntake 0\nread p 0\ntake 0\nread p 0\ntake 0\nread p 0\ntake 0\nread p 0\ntake 0\n\
             read p 0\ntake 0\nread p 0\ntake 0\nread p 0\ntake 0\nread p 0\ntake 0\nread p 0\ntake 0\nread p 0\n\
             take 0\nread p 0\ntake 0\nread p 0\ntake 0\nread p 0\ntake 0\nread p 0\ntake 0\nread p 0\ntake 0\n\
@@ -450,23 +444,24 @@ static LONG: [Row; 2] = [
             read p 0\ntake 0\nread p 0\ntake 0\nread p 0\ntake 0\nread p 0\ntake 0\nread p 0\ntake 0\nread p 0\n\
             take 0\nread p 0\ntake 0\nread p 0\ntake 0\nread p 0\ntake 0\nread p 0\ntake 0\nread p 0\ntake 0\n\
             read p 0\ntake 0\nread p 0\ntake 0\nread p 0\ntake 0\nread p 0\ntake 0\nread p 0\ntake 0\nread p 0\n\
-            take 0\nread p 0\ntake 0\nread p 0\ntake 0\ndo 130\nwrite 0\nsettle 0\ndo 128\nwrite 0\nsettle 0\n\
-            do 126\nwrite 0\nsettle 0\ndo 124\nwrite 0\nsettle 0\ndo 122\nwrite 0\nsettle 0\ndo 120\nwrite 0\n\
-            settle 0\ndo 118\nwrite 0\nsettle 0\ndo 116\nwrite 0\nsettle 0\ndo 114\nwrite 0\nsettle 0\ndo 112\n\
-            write 0\nsettle 0\ndo 110\nwrite 0\nsettle 0\ndo 108\nwrite 0\nsettle 0\ndo 106\nwrite 0\nsettle 0\n\
-            do 104\nwrite 0\nsettle 0\ndo 102\nwrite 0\nsettle 0\ndo 100\nwrite 0\nsettle 0\ndo 98\nwrite 0\n\
-            settle 0\ndo 96\nwrite 0\nsettle 0\ndo 94\nwrite 0\nsettle 0\ndo 92\nwrite 0\nsettle 0\ndo 90\nwrite 0\n\
-            settle 0\ndo 88\nwrite 0\nsettle 0\ndo 86\nwrite 0\nsettle 0\ndo 84\nwrite 0\nsettle 0\ndo 82\nwrite 0\n\
-            settle 0\ndo 80\nwrite 0\nsettle 0\ndo 78\nwrite 0\nsettle 0\ndo 76\nwrite 0\nsettle 0\ndo 74\nwrite 0\n\
-            settle 0\ndo 72\nwrite 0\nsettle 0\ndo 70\nwrite 0\nsettle 0\ndo 68\nwrite 0\nsettle 0\ndo 66\nwrite 0\n\
-            settle 0\ndo 64\nwrite 0\nsettle 0\ndo 62\nwrite 0\nsettle 0\ndo 60\nwrite 0\nsettle 0\ndo 58\nwrite 0\n\
-            settle 0\ndo 56\nwrite 0\nsettle 0\ndo 54\nwrite 0\nsettle 0\ndo 52\nwrite 0\nsettle 0\ndo 50\nwrite 0\n\
-            settle 0\ndo 48\nwrite 0\nsettle 0\ndo 46\nwrite 0\nsettle 0\ndo 44\nwrite 0\nsettle 0\ndo 42\nwrite 0\n\
-            settle 0\ndo 40\nwrite 0\nsettle 0\ndo 38\nwrite 0\nsettle 0\ndo 36\nwrite 0\nsettle 0\ndo 34\nwrite 0\n\
-            settle 0\ndo 32\nwrite 0\nsettle 0\ndo 30\nwrite 0\nsettle 0\ndo 28\nwrite 0\nsettle 0\ndo 26\nwrite 0\n\
-            settle 0\ndo 24\nwrite 0\nsettle 0\ndo 22\nwrite 0\nsettle 0\ndo 20\nwrite 0\nsettle 0\ndo 18\nwrite 0\n\
-            settle 0\ndo 16\nwrite 0\nsettle 0\ndo 14\nwrite 0\nsettle 0\ndo 12\nwrite 0\nsettle 0\ndo 10\nwrite 0\n\
-            settle 0\ndo 8\nwrite 0\nsettle 0\ndo 6\nwrite 0\nsettle 0\ndo 4\nwrite 0\nsettle 0\n",
+            take 0\nread p 0\ntake 0\nread p 0\ntake 0\nread p 0\ntake 0\nread p 0\ntake 0\nread p 0\ntake 0\n\
+            read p 0\ntake 0\nread p 0\ntake 0\ndo 130\nwrite 0\nsettle 0\ndo 128\nwrite 0\nsettle 0\ndo 126\n\
+            write 0\nsettle 0\ndo 124\nwrite 0\nsettle 0\ndo 122\nwrite 0\nsettle 0\ndo 120\nwrite 0\nsettle 0\n\
+            do 118\nwrite 0\nsettle 0\ndo 116\nwrite 0\nsettle 0\ndo 114\nwrite 0\nsettle 0\ndo 112\nwrite 0\n\
+            settle 0\ndo 110\nwrite 0\nsettle 0\ndo 108\nwrite 0\nsettle 0\ndo 106\nwrite 0\nsettle 0\ndo 104\n\
+            write 0\nsettle 0\ndo 102\nwrite 0\nsettle 0\ndo 100\nwrite 0\nsettle 0\ndo 98\nwrite 0\nsettle 0\ndo 96\n\
+            write 0\nsettle 0\ndo 94\nwrite 0\nsettle 0\ndo 92\nwrite 0\nsettle 0\ndo 90\nwrite 0\nsettle 0\ndo 88\n\
+            write 0\nsettle 0\ndo 86\nwrite 0\nsettle 0\ndo 84\nwrite 0\nsettle 0\ndo 82\nwrite 0\nsettle 0\ndo 80\n\
+            write 0\nsettle 0\ndo 78\nwrite 0\nsettle 0\ndo 76\nwrite 0\nsettle 0\ndo 74\nwrite 0\nsettle 0\ndo 72\n\
+            write 0\nsettle 0\ndo 70\nwrite 0\nsettle 0\ndo 68\nwrite 0\nsettle 0\ndo 66\nwrite 0\nsettle 0\ndo 64\n\
+            write 0\nsettle 0\ndo 62\nwrite 0\nsettle 0\ndo 60\nwrite 0\nsettle 0\ndo 58\nwrite 0\nsettle 0\ndo 56\n\
+            write 0\nsettle 0\ndo 54\nwrite 0\nsettle 0\ndo 52\nwrite 0\nsettle 0\ndo 50\nwrite 0\nsettle 0\ndo 48\n\
+            write 0\nsettle 0\ndo 46\nwrite 0\nsettle 0\ndo 44\nwrite 0\nsettle 0\ndo 42\nwrite 0\nsettle 0\ndo 40\n\
+            write 0\nsettle 0\ndo 38\nwrite 0\nsettle 0\ndo 36\nwrite 0\nsettle 0\ndo 34\nwrite 0\nsettle 0\ndo 32\n\
+            write 0\nsettle 0\ndo 30\nwrite 0\nsettle 0\ndo 28\nwrite 0\nsettle 0\ndo 26\nwrite 0\nsettle 0\ndo 24\n\
+            write 0\nsettle 0\ndo 22\nwrite 0\nsettle 0\ndo 20\nwrite 0\nsettle 0\ndo 18\nwrite 0\nsettle 0\ndo 16\n\
+            write 0\nsettle 0\ndo 14\nwrite 0\nsettle 0\ndo 12\nwrite 0\nsettle 0\ndo 10\nwrite 0\nsettle 0\ndo 8\n\
+            write 0\nsettle 0\ndo 6\nwrite 0\nsettle 0\ndo 4\nwrite 0\nsettle 0\n",
         output: "mounted\nread 2 INIT 56\ntaken 2 held\ndone 2 0 80\nwritten 2 0\nsettled 2 0\ncall 1\ncall 2\n\
             call 3\ncall 4\ncall 5\ncall 6\ncall 7\ncall 8\ncall 9\ncall 10\ncall 11\ncall 12\ncall 13\ncall 14\n\
             call 15\ncall 16\ncall 17\ncall 18\ncall 19\ncall 20\ncall 21\ncall 22\ncall 23\ncall 24\ncall 25\n\
@@ -550,19 +545,19 @@ static LONG: [Row; 2] = [
             again 6\nagain 6\nagain 6\nagain 6\nagain 6\nagain 6\nagain 6\nagain 6\nagain 6\nagain 6\nagain 6\n\
             again 6\nagain 6\nagain 6\nagain 6\nagain 6\nagain 6\nagain 6\nagain 6\nagain 6\nagain 6\nagain 6\n\
             again 6\nagain 6\nagain 6\nagain 6\nagain 6\nagain 6\nagain 6\nagain 6\nagain 6\nagain 6\nagain 6\n\
-            again 6\nagain 6\nagain 6\nagain 6\nshow\nwrite 0\nwrite 0\nwrite 0\nwrite 0\nwrite 0\nwrite 0\n\
+            again 6\nagain 6\nagain 6\nagain 6\nshow\nwrite 0\nwrite 0\nwrite 0\nwrite 0\nwrite 0\nwrite 0\nwrite 0\n\
             write 0\nwrite 0\nwrite 0\nwrite 0\nwrite 0\nwrite 0\nwrite 0\nwrite 0\nwrite 0\nwrite 0\nwrite 0\n\
             write 0\nwrite 0\nwrite 0\nwrite 0\nwrite 0\nwrite 0\nwrite 0\nwrite 0\nwrite 0\nwrite 0\nwrite 0\n\
             write 0\nwrite 0\nwrite 0\nwrite 0\nwrite 0\nwrite 0\nwrite 0\nwrite 0\nwrite 0\nwrite 0\nwrite 0\n\
             write 0\nwrite 0\nwrite 0\nwrite 0\nwrite 0\nwrite 0\nwrite 0\nwrite 0\nwrite 0\nwrite 0\nwrite 0\n\
             write 0\nwrite 0\nwrite 0\nwrite 0\nwrite 0\nwrite 0\nwrite 0\nwrite 0\nwrite 0\nwrite 0\nwrite 0\n\
-            write 0\nwrite 0\nwrite 0\nshow\nsettle 0\nsettle 0\nsettle 0\nsettle 0\nsettle 0\nsettle 0\nsettle 0\n\
+            write 0\nwrite 0\nshow\nsettle 0\nsettle 0\nsettle 0\nsettle 0\nsettle 0\nsettle 0\nsettle 0\nsettle 0\n\
             settle 0\nsettle 0\nsettle 0\nsettle 0\nsettle 0\nsettle 0\nsettle 0\nsettle 0\nsettle 0\nsettle 0\n\
             settle 0\nsettle 0\nsettle 0\nsettle 0\nsettle 0\nsettle 0\nsettle 0\nsettle 0\nsettle 0\nsettle 0\n\
             settle 0\nsettle 0\nsettle 0\nsettle 0\nsettle 0\nsettle 0\nsettle 0\nsettle 0\nsettle 0\nsettle 0\n\
             settle 0\nsettle 0\nsettle 0\nsettle 0\nsettle 0\nsettle 0\nsettle 0\nsettle 0\nsettle 0\nsettle 0\n\
             settle 0\nsettle 0\nsettle 0\nsettle 0\nsettle 0\nsettle 0\nsettle 0\nsettle 0\nsettle 0\nsettle 0\n\
-            settle 0\nsettle 0\nsettle 0\nsettle 0\nsettle 0\nsettle 0\nsettle 0\nshow\n",
+            settle 0\nsettle 0\nsettle 0\nsettle 0\nsettle 0\nsettle 0\nshow\n",
         output: "mounted\nread 2 INIT 56\ntaken 2 held\ndone 2 0 80\nwritten 2 0\nsettled 2 0\ncall 1\n\
             read 4 MKDIR 50\ntaken 4 held\ndone 4 0 144\nwritten 4 0\nanswer 1 0\nsettled 4 0\nnow 1000\ncall 2\n\
             read 6 LOOKUP 42\ntaken 6 held\ndone 6 0 144\nagain 6 144\nagain 6 144\nagain 6 144\nagain 6 144\n\
@@ -582,7 +577,7 @@ static LONG: [Row; 2] = [
             written 6 2\nwritten 6 2\nwritten 6 2\nwritten 6 2\nwritten 6 2\nwritten 6 2\nwritten 6 2\nwritten 6 2\n\
             written 6 2\nwritten 6 2\nwritten 6 2\nwritten 6 2\nwritten 6 2\nwritten 6 2\nwritten 6 2\nwritten 6 2\n\
             written 6 2\nwritten 6 2\nwritten 6 2\nwritten 6 2\nwritten 6 2\nwritten 6 2\nkernel 2:1:2\n\
-            server 2:1:65\nsettled 6 0\nsettled 6 2\nsettled 6 2\nsettled 6 2\nsettled 6 2\nsettled 6 2\n\
+            server 2:1:65\nsettled 6 0\nsettled 6 2\nsettled 6 2\nsettled 6 2\nsettled 6 2\nsettled 6 2\nsettled 6 2\n\
             settled 6 2\nsettled 6 2\nsettled 6 2\nsettled 6 2\nsettled 6 2\nsettled 6 2\nsettled 6 2\nsettled 6 2\n\
             settled 6 2\nsettled 6 2\nsettled 6 2\nsettled 6 2\nsettled 6 2\nsettled 6 2\nsettled 6 2\nsettled 6 2\n\
             settled 6 2\nsettled 6 2\nsettled 6 2\nsettled 6 2\nsettled 6 2\nsettled 6 2\nsettled 6 2\nsettled 6 2\n\
@@ -590,7 +585,7 @@ static LONG: [Row; 2] = [
             settled 6 2\nsettled 6 2\nsettled 6 2\nsettled 6 2\nsettled 6 2\nsettled 6 2\nsettled 6 2\nsettled 6 2\n\
             settled 6 2\nsettled 6 2\nsettled 6 2\nsettled 6 2\nsettled 6 2\nsettled 6 2\nsettled 6 2\nsettled 6 2\n\
             settled 6 2\nsettled 6 2\nsettled 6 2\nsettled 6 2\nsettled 6 2\nsettled 6 2\nsettled 6 2\nsettled 6 2\n\
-            settled 6 2\nsettled 6 2\nkernel 2:1:2\nserver 2:1:2\n",
+            settled 6 2\nkernel 2:1:2\nserver 2:1:2\n",
     },
 ];
 
