@@ -2,7 +2,8 @@
 """Whether what the documents name is there: files, crates, rows, edits, definitions, functions and make's targets.
 
 A lone word in backticks has to be a word of a source outside its comments, or in the name of a file, a folder or a crate.
-In the tables whose second column is "Definition", each rule has to lead to a definition, a function and a test.
+In the tables whose second column is "Definition", each rule has to lead to a definition, a function and a test; in the one
+whose second is "Word" that word has to stand in each file, and one with `::` in no other source but tests.
 Each sample of Rust has to be lines of crates/callers, and each sample that names a file lines of that file. The version
 has to be the program's everywhere; ARCHITECTURE.md has each crate below those that it uses. Each row with a line has to
 begin with a comment that says what it shows.
@@ -120,6 +121,17 @@ def unlike_files(page):
         if not any(lines[place:place + len(wanted)] == wanted for place in range(len(lines))):
             yield f"{name} has no such lines: {sample}"
 
+def word_faults(word, listed):
+    """Which files of a row have not its word, or have it and are not listed."""
+    said = re.compile(rf"\b{word}\b", 0 if "::" in word else re.I)
+    for file in listed:
+        if not said.search((TOP / "crates" / file).read_text()):
+            yield f"{file} has no {word}"
+    if "::" in word:
+        sources = [file.relative_to(TOP / "crates") for file in TOP.glob("crates/*/src/**/*.rt") if said.search(file.read_text())]
+        yield from (f"{file} has {word} too" for file in map(str, sources)
+                    if file not in listed and not re.match(r"\w+_tests/|callers/", file))
+
 def uncommented_rows():
     """The rows with a line whose first line is no comment."""
     return [script for script in sorted(TOP.glob("tests/rows/*.script")) if not re.match(r"# \S|$", script.read_text())]
@@ -181,7 +193,7 @@ def main():
     wrong += out_of_order()
     wrong += comment_faults()
     for page in PAGES:
-        in_rules = False
+        in_rules = in_words = False
         for number, line in enumerate(page.read_text().split("\n"), 1):
             place = f"{page.relative_to(TOP)}:{number}"
             for link in re.findall(r"\]\(([^)#:]+)\)", line):
@@ -198,8 +210,12 @@ def main():
             cells = line.split("|")[1:-1]
             if len(cells) > 1 and cells[1].strip() == "Definition":
                 in_rules = True
+            elif len(cells) > 1 and cells[1].strip() == "Word":
+                in_words = True
             elif not cells:
-                in_rules = False
+                in_rules = in_words = False
+            elif in_words and "---" not in line:
+                wrong += [f"{place}: {fault}" for fault in word_faults(cells[1].strip(), names(cells[2]))]
             elif in_rules and "---" not in line and not rule_is_whole(*cells[1:4]):
                 wrong.append(f"{place}: the rule {cells[0].strip()}")
     for fault in wrong:
