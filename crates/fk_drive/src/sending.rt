@@ -63,13 +63,7 @@ fn send_listing<D: Device>(device: &mut D, frame: &[u8], fh: u64) -> Result<(), 
 
 /// Sends a request that lists a node, under its number, once its directory is open. Where that fails the kernel takes
 /// the error as its reply.
-fn send_opened<
-    Q: QueueTable<Purpose> + Drop,
-    C: CountTable<Heap = Q::Heap> + Drop,
-    D: Device,
-    N: Notes<O>,
-    O,
->(
+fn send_opened<Q: QueueTable<Purpose>, C: CountTable<Heap = Q::Heap>, D: Device, N: Notes<O>, O>(
     kernel: &mut KernelOf<Q, C>,
     connection: &mut Connection<Q::Heap>,
     device: &mut D,
@@ -104,7 +98,7 @@ fn send_opened<
 }
 
 /// The kernel takes an error as the reply to a request.
-fn answer<Q: QueueTable<Purpose> + Drop, C: CountTable<Heap = Q::Heap> + Drop>(
+fn answer<Q: QueueTable<Purpose>, C: CountTable<Heap = Q::Heap>>(
     kernel: &mut KernelOf<Q, C>,
     unique: u64,
     error: i32,
@@ -125,13 +119,7 @@ fn answer<Q: QueueTable<Purpose> + Drop, C: CountTable<Heap = Q::Heap> + Drop>(
 }
 
 /// Sends a request that was read, under its number.
-fn send_read<
-    Q: QueueTable<Purpose> + Drop,
-    C: CountTable<Heap = Q::Heap> + Drop,
-    D: Device,
-    N: Notes<O>,
-    O,
->(
+fn send_read<Q: QueueTable<Purpose>, C: CountTable<Heap = Q::Heap>, D: Device, N: Notes<O>, O>(
     kernel: &mut KernelOf<Q, C>,
     connection: &mut Connection<Q::Heap>,
     device: &mut D,
@@ -171,13 +159,7 @@ fn send_read<
 /// # Errors
 ///
 /// The kernel refused to be read, and then nothing changed; or the run came to its end.
-pub fn send_next<
-    Q: QueueTable<Purpose> + Drop,
-    C: CountTable<Heap = Q::Heap> + Drop,
-    D: Device,
-    N: Notes<O>,
-    O,
->(
+pub fn send_next<Q: QueueTable<Purpose>, C: CountTable<Heap = Q::Heap>, D: Device, N: Notes<O>, O>(
     kernel: &mut KernelOf<Q, C>,
     connection: &mut Connection<Q::Heap>,
     device: &mut D,

@@ -43,7 +43,7 @@ pub struct Written<A: Allocator> {
 }
 
 /// Writes bytes to the kernel.
-fn take_reply<Q: QueueTable<Purpose> + Drop, C: CountTable<Heap = Q::Heap> + Drop>(
+fn take_reply<Q: QueueTable<Purpose>, C: CountTable<Heap = Q::Heap>>(
     kernel: &mut KernelOf<Q, C>,
     bytes: &[u8],
 ) -> Result<WriteResult, Refusal>
@@ -57,7 +57,7 @@ fn take_reply<Q: QueueTable<Purpose> + Drop, C: CountTable<Heap = Q::Heap> + Dro
 }
 
 /// Writes a frame to the kernel: an older agreement as one on 7.15 or 7.31, and any other as it is.
-fn hand_on<Q: QueueTable<Purpose> + Drop, C: CountTable<Heap = Q::Heap> + Drop>(
+fn hand_on<Q: QueueTable<Purpose>, C: CountTable<Heap = Q::Heap>>(
     kernel: &mut KernelOf<Q, C>,
     frame: &[u8],
 ) -> Result<WriteResult, Refusal>
@@ -102,7 +102,7 @@ fn receive_one<A: Allocator + Copy, D: Device, N: Notes<O>, O>(
 }
 
 /// Writes the first frame that waits to the kernel.
-fn write_first<Q: QueueTable<Purpose> + Drop, C: CountTable<Heap = Q::Heap> + Drop>(
+fn write_first<Q: QueueTable<Purpose>, C: CountTable<Heap = Q::Heap>>(
     kernel: &mut KernelOf<Q, C>,
     connection: &mut Connection<Q::Heap>,
 ) -> Result<Written<Q::Heap>, Refusal>
@@ -133,13 +133,7 @@ fn write_first<Q: QueueTable<Purpose> + Drop, C: CountTable<Heap = Q::Heap> + Dr
 /// # Errors
 ///
 /// The run came to its end before there was one. `Written::end` says where it did behind one.
-pub fn write_next<
-    Q: QueueTable<Purpose> + Drop,
-    C: CountTable<Heap = Q::Heap> + Drop,
-    D: Device,
-    N: Notes<O>,
-    O,
->(
+pub fn write_next<Q: QueueTable<Purpose>, C: CountTable<Heap = Q::Heap>, D: Device, N: Notes<O>, O>(
     kernel: &mut KernelOf<Q, C>,
     connection: &mut Connection<Q::Heap>,
     device: &mut D,

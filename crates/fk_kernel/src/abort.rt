@@ -10,7 +10,7 @@ use fk_lookup_count::CountTable;
 use fk_queues::QueueTable;
 use fuse_spec::{Phase, Purpose, Refusal};
 
-impl<Q: QueueTable<Purpose> + Drop, C: CountTable<Heap = Q::Heap> + Drop> KernelOf<Q, C> {
+impl<Q: QueueTable<Purpose>, C: CountTable<Heap = Q::Heap>> KernelOf<Q, C> {
     /// Aborts the mount (fuse.rst). Each unanswered call is answered ECONNABORTED, and cached names, nodes, open files
     /// and all that is queued are abandoned. Takes no memory: the answers have their room since the calls began.
     ///

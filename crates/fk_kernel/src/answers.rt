@@ -14,7 +14,7 @@ use fk_queues::QueueTable;
 use fk_syscalls::Answer;
 use fuse_spec::Purpose;
 
-impl<Q: QueueTable<Purpose> + Drop, C: CountTable<Heap = Q::Heap> + Drop> KernelOf<Q, C> {
+impl<Q: QueueTable<Purpose>, C: CountTable<Heap = Q::Heap>> KernelOf<Q, C> {
     /// The call's request ends, and the call is answered.
     pub(crate) fn answer_call(&mut self, unique: u64, call: u64, answer: Answer<Q::Heap>)
         requires waits { waiting self.old.queues unique ≡ Some (Purpose.Call call) }

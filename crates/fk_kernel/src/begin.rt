@@ -21,7 +21,7 @@ use fuse_spec::errno::ENOTCONN;
 use fuse_spec::limits::{COUNTER_END, MAX_CALLS};
 use fuse_spec::{Purpose, Refusal};
 
-impl<Q: QueueTable<Purpose> + Drop, C: CountTable<Heap = Q::Heap> + Drop> KernelOf<Q, C> {
+impl<Q: QueueTable<Purpose>, C: CountTable<Heap = Q::Heap>> KernelOf<Q, C> {
     /// Begins a call and gives its number. It is answered at once, or its first request is queued. Where files may not
     /// be listed with their names, the names are listed alone.
     ///

@@ -8,7 +8,7 @@ use fk_lookup_count::CountTable;
 use fk_queues::QueueTable;
 use fuse_spec::{Dentry, Purpose};
 
-impl<Q: QueueTable<Purpose> + Drop, C: CountTable<Heap = Q::Heap> + Drop> KernelOf<Q, C> {
+impl<Q: QueueTable<Purpose>, C: CountTable<Heap = Q::Heap>> KernelOf<Q, C> {
     /// What a cached name leads to, valid or not.
     pub fn cached_name(&self, directory: u64, name: &[u8]) -> Option<Dentry>
         ensures { result ≡ get_name self.now.vfs.names (directory, name.now) }

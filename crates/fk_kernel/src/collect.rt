@@ -10,7 +10,7 @@ use fk_queues::QueueTable;
 use fk_syscalls::Answer;
 use fuse_spec::Purpose;
 
-impl<Q: QueueTable<Purpose> + Drop, C: CountTable<Heap = Q::Heap> + Drop> KernelOf<Q, C> {
+impl<Q: QueueTable<Purpose>, C: CountTable<Heap = Q::Heap>> KernelOf<Q, C> {
     /// Hands out, once, the answer of the lowest answered call.
     pub fn collect(&mut self) -> Option<(u64, Answer<Q::Heap>)>
         ensures answer { option_map (λ r. (r.0, answer_of r.1)) result ≡ slice_get self.old.vfs.answers 0 }

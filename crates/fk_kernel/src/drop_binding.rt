@@ -9,7 +9,7 @@ use fk_lookup_count::CountTable;
 use fk_queues::QueueTable;
 use fuse_spec::{Purpose, Refusal};
 
-impl<Q: QueueTable<Purpose> + Drop, C: CountTable<Heap = Q::Heap> + Drop> KernelOf<Q, C> {
+impl<Q: QueueTable<Purpose>, C: CountTable<Heap = Q::Heap>> KernelOf<Q, C> {
     /// Drops a cached name, valid or not. Takes no memory.
     ///
     /// # Errors

@@ -101,7 +101,7 @@ fn node_opened_by<A: Allocator + Copy>(state: &CallState<A>) -> u64
     node
 }
 
-impl<Q: QueueTable<Purpose> + Drop, C: CountTable<Heap = Q::Heap> + Drop> KernelOf<Q, C> {
+impl<Q: QueueTable<Purpose>, C: CountTable<Heap = Q::Heap>> KernelOf<Q, C> {
     /// What a reply with an entry says reaches the call: it has to name a file that can be used.
     pub(crate) fn entry_found(
         &mut self,

@@ -12,7 +12,7 @@ use fk_lookup_count::CountTable;
 use fk_queues::QueueTable;
 use fuse_spec::{Purpose, Refusal};
 
-impl<Q: QueueTable<Purpose> + Drop, C: CountTable<Heap = Q::Heap> + Drop> KernelOf<Q, C> {
+impl<Q: QueueTable<Purpose>, C: CountTable<Heap = Q::Heap>> KernelOf<Q, C> {
     /// Why a node cannot be evicted: `NotReady` where the mount is not live, `NoSuch` where the node is not counted,
     /// `Busy` where it is pinned or a cached name, valid or not, names it.
     pub fn evict_refusal(&self, node: u64) -> Option<Refusal>

@@ -17,7 +17,7 @@ use fk_syscalls::Answer;
 use fuse_spec::errno::EINTR;
 use fuse_spec::{IntrEffect, Purpose, Refusal};
 
-impl<Q: QueueTable<Purpose> + Drop, C: CountTable<Heap = Q::Heap> + Drop> KernelOf<Q, C> {
+impl<Q: QueueTable<Purpose>, C: CountTable<Heap = Q::Heap>> KernelOf<Q, C> {
     /// Signals an unanswered call, fatally or not (fuse.rst). Where its request is unread and the signal is fatal, the
     /// request goes and the call is answered EINTR; a closed file that it would have read or written last is released.
     /// Takes no memory: the answer has its room since the call began, an INTERRUPT since its request was queued, and a

@@ -82,7 +82,7 @@ impl<Q: QueueTable<Purpose>, C: CountTable<Heap = Q::Heap>> Model for KernelOf<Q
         k.opens.entries k.closing.entries k.queues.queues k.queues.room k.nodes k.clock };
 }
 
-impl<Q: QueueTable<Purpose> + Drop, C: CountTable<Heap = Q::Heap> + Drop> KernelOf<Q, C> {
+impl<Q: QueueTable<Purpose>, C: CountTable<Heap = Q::Heap>> KernelOf<Q, C> {
     /// A kernel before its first mount.
     pub fn new(alloc: Q::Heap) -> Self
         ensures { result ≡ first_kernel }
@@ -106,7 +106,8 @@ impl<Q: QueueTable<Purpose> + Drop, C: CountTable<Heap = Q::Heap> + Drop> Kernel
 
     /// Ends the kernel. It is a drop, whose parts are so proved in one crate, and not in each that has a kernel.
     pub fn end(self) {
-        drop(self);
+        self.queues.end();
+        self.nodes.end();
     }
 
     /// No counter is past its end. A call without effect, made where a proof rests on that.

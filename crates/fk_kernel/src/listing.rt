@@ -20,7 +20,7 @@ use fk_syscalls::Answer;
 use fk_wire::RecordsPlus;
 use fuse_spec::{Operation, Purpose, Refusal, WriteResult};
 
-impl<Q: QueueTable<Purpose> + Drop, C: CountTable<Heap = Q::Heap> + Drop> KernelOf<Q, C> {
+impl<Q: QueueTable<Purpose>, C: CountTable<Heap = Q::Heap>> KernelOf<Q, C> {
     /// The call is answered the names that a directory lists with their files. Each is counted and cached from now on,
     /// but for those with no file, the root, or a node that is counted under another generation, of which one lookup is
     /// forgotten.

@@ -9,8 +9,9 @@ use crate::kernel::KernelOf;
 use fk_lookup_count::CountTable;
 use fk_queues::{KernelQueues, QueueTable};
 use fuse_spec::{Minor, Phase, Purpose, Refusal};
+use std::mem::replace;
 
-impl<Q: QueueTable<Purpose> + Drop, C: CountTable<Heap = Q::Heap> + Drop> KernelOf<Q, C> {
+impl<Q: QueueTable<Purpose>, C: CountTable<Heap = Q::Heap>> KernelOf<Q, C> {
     /// Whether a live mount has unanswered calls or open files.
     fn is_busy(&self) -> bool
         ensures { result ≡ is_busy self.now }
@@ -36,10 +37,11 @@ impl<Q: QueueTable<Purpose> + Drop, C: CountTable<Heap = Q::Heap> + Drop> Kernel
         }
         let mut queues = KernelQueues::new(self.alloc);
         if queues.reserve(1, 0).is_err() {
+            queues.end();
             return Err(Refusal::NoMemory);
         }
         let _init = queues.enqueue(Purpose::Init);
-        self.queues = queues;
+        replace(&mut self.queues, queues).end();
         self.calls.clear();
         self.opens.clear();
         self.closing.clear();

@@ -26,7 +26,7 @@ use fuse_spec::errno::EBADF;
 use fuse_spec::limits::MAX_CALLS;
 use fuse_spec::{Opened, Purpose, Refusal};
 
-impl<Q: QueueTable<Purpose> + Drop, C: CountTable<Heap = Q::Heap> + Drop> KernelOf<Q, C> {
+impl<Q: QueueTable<Purpose>, C: CountTable<Heap = Q::Heap>> KernelOf<Q, C> {
     /// A call of the next number closes an open file: it is answered at once. The RELEASE is queued unless a read or
     /// write of the file is unanswered.
     pub(crate) fn begin_close(&mut self, open_call: u64) -> Result<u64, Refusal>

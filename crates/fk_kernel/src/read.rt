@@ -22,7 +22,7 @@ pub enum Pick {
     Pending(u64),
 }
 
-impl<Q: QueueTable<Purpose> + Drop, C: CountTable<Heap = Q::Heap> + Drop> KernelOf<Q, C> {
+impl<Q: QueueTable<Purpose>, C: CountTable<Heap = Q::Heap>> KernelOf<Q, C> {
     /// Why this cannot be read, out of memory aside: `NotReady` where the mount is not live; `InterruptFirst` for
     /// forgets and a pending request while an INTERRUPT is queued; `NoSuch` where no INTERRUPT is queued, where no
     /// request is pending at the place, and for 0 forgets, for more than 64, for more than are queued and for more than

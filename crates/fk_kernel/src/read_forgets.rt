@@ -13,7 +13,7 @@ use fk_queues::{Forgets, QueueTable};
 use fuse_frames::RequestFrame;
 use fuse_spec::{Purpose, Refusal};
 
-impl<Q: QueueTable<Purpose> + Drop, C: CountTable<Heap = Q::Heap> + Drop> KernelOf<Q, C> {
+impl<Q: QueueTable<Purpose>, C: CountTable<Heap = Q::Heap>> KernelOf<Q, C> {
     /// The first forgets that may be read as one frame, with its number.
     fn first_forgets(&self, count: u64) -> Option<(u64, Forgets)>
         ensures { result ≡ forgets_read self.now count }

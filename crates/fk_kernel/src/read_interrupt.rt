@@ -12,7 +12,7 @@ use fk_unique::interrupt_of;
 use fuse_frames::RequestFrame;
 use fuse_spec::{Purpose, Refusal};
 
-impl<Q: QueueTable<Purpose> + Drop, C: CountTable<Heap = Q::Heap> + Drop> KernelOf<Q, C> {
+impl<Q: QueueTable<Purpose>, C: CountTable<Heap = Q::Heap>> KernelOf<Q, C> {
     /// Why the oldest INTERRUPT cannot be read, out of memory aside: `NotReady` where the mount is not live, `NoSuch`
     /// where none is queued.
     pub(crate) fn read_interrupt_refusal(&self) -> Option<Refusal>

@@ -13,7 +13,7 @@ use fk_queues::QueueTable;
 use fuse_frames::RequestFrame;
 use fuse_spec::{Purpose, Refusal};
 
-impl<Q: QueueTable<Purpose> + Drop, C: CountTable<Heap = Q::Heap> + Drop> KernelOf<Q, C> {
+impl<Q: QueueTable<Purpose>, C: CountTable<Heap = Q::Heap>> KernelOf<Q, C> {
     /// The pending request at a place, with its number, or why it cannot be read. It has something to ask: that of a
     /// call is that of an unanswered call.
     #[inline(always)]

@@ -28,7 +28,7 @@ use fuse_frames::{DecodedReply, Reply};
 use fuse_spec::errno::EIO;
 use fuse_spec::{Purpose, Refusal, WriteResult};
 
-impl<Q: QueueTable<Purpose> + Drop, C: CountTable<Heap = Q::Heap> + Drop> KernelOf<Q, C> {
+impl<Q: QueueTable<Purpose>, C: CountTable<Heap = Q::Heap>> KernelOf<Q, C> {
     /// A reply to the request of a call. Bytes that do not go with what it asked answer it EIO.
     pub(crate) fn write_to_call(
         &mut self,

@@ -54,7 +54,7 @@ pub enum KernelStep<A: Allocator = Global> {
     Aborted,
 }
 
-impl<Q: QueueTable<Purpose> + Drop, C: CountTable<Heap = Q::Heap> + Drop> KernelOf<Q, C> {
+impl<Q: QueueTable<Purpose>, C: CountTable<Heap = Q::Heap>> KernelOf<Q, C> {
     /// One event happens to the kernel.
     ///
     /// # Errors

@@ -10,7 +10,7 @@ use fk_queues::QueueTable;
 use fuse_spec::limits::CLOCK_END;
 use fuse_spec::{Purpose, Refusal};
 
-impl<Q: QueueTable<Purpose> + Drop, C: CountTable<Heap = Q::Heap> + Drop> KernelOf<Q, C> {
+impl<Q: QueueTable<Purpose>, C: CountTable<Heap = Q::Heap>> KernelOf<Q, C> {
     /// The clock goes on this many milliseconds. Gives the new time. Takes no memory.
     ///
     /// # Errors

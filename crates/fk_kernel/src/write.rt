@@ -17,7 +17,7 @@ use fuse_frames::{Reply, agrees, decode_reply, files_agreed, minor_agreed};
 use fuse_spec::errno::{EAGAIN, ENOSYS};
 use fuse_spec::{Phase, Purpose, Refusal, WriteResult};
 
-impl<Q: QueueTable<Purpose> + Drop, C: CountTable<Heap = Q::Heap> + Drop> KernelOf<Q, C> {
+impl<Q: QueueTable<Purpose>, C: CountTable<Heap = Q::Heap>> KernelOf<Q, C> {
     /// Takes any bytes as a reply. A reply to INIT, to a RELEASE or to an INTERRUPT takes no memory.
     ///
     /// # Errors

@@ -27,7 +27,7 @@ use fk_wire::ReplyHead;
 use fuse_frames::{DecodedReply, Reply, reply_to_call};
 use fuse_spec::{Entry, Operation, Purpose, Refusal};
 
-impl<Q: QueueTable<Purpose> + Drop, C: CountTable<Heap = Q::Heap> + Drop> KernelOf<Q, C> {
+impl<Q: QueueTable<Purpose>, C: CountTable<Heap = Q::Heap>> KernelOf<Q, C> {
     /// Why `write` would refuse these bytes, out of memory aside: `Exhausted` where no number is left for the request
     /// that they would have queued, or a node's count would reach the end of counters. Takes no memory.
     pub fn write_refusal(&self, bytes: &[u8]) -> Option<Refusal>

@@ -104,4 +104,7 @@ pub trait CountTable {
     /// Out of memory for the list.
     fn nodes(&self, alloc: Self::Heap) -> Result<Vec<(u64, u64, u64), Self::Heap>, AllocError>
         ensures { IfOk result (λ nodes. nodes.items ≡ listed_counts (counted self.now)) };
+
+    /// Ends it. It is a drop, whose parts are so proved in this crate, and not in each that has one.
+    fn end(self);
 }

@@ -126,4 +126,8 @@ impl<S: Slots> CountTable for CountsOf<S> {
     fn nodes(&self, alloc: S::Heap) -> Result<Vec<(u64, u64, u64), S::Heap>, AllocError> {
         self.slots.nodes(alloc)
     }
+
+    fn end(self) {
+        self.slots.end();
+    }
 }

@@ -92,6 +92,8 @@ impl<A: Allocator + Copy> Slots for KernelSlots<A> {
         }
         Ok(nodes)
     }
+
+    fn end(self) {}
 }
 
 /// What stands at a place.

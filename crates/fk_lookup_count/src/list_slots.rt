@@ -78,4 +78,6 @@ impl<A: Allocator + Copy> Slots for ListSlots<A> {
         }
         Ok(nodes)
     }
+
+    fn end(self) {}
 }

@@ -244,4 +244,9 @@ impl<C: CountTable> CountedNodes<C> {
         let _ = &self.len;
         self.table.nodes(alloc)
     }
+
+    /// Ends it, as a drop does.
+    pub fn end(self) {
+        self.table.end();
+    }
 }

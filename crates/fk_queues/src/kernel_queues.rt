@@ -176,6 +176,10 @@ impl<Q: QueueTable<Purpose>> QueueTable<Purpose> for KernelQueues<Q> {
     fn lemma_sound(&self) {
         self.queues.lemma_sound();
     }
+
+    fn end(self) {
+        self.queues.end();
+    }
 }
 
 /// A RELEASE that is queued pins the node of its file.

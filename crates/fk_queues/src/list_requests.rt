@@ -76,6 +76,8 @@ impl<W: Drop, A: Allocator + Copy> RequestStore<W> for ListRequests<W, A> {
     fn clear(&mut self) {
         self.requests.clear();
     }
+
+    fn end(self) {}
 }
 
 /// Where the request under a number stands.

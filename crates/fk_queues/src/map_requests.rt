@@ -141,6 +141,8 @@ impl<W: Drop, A: Allocator + Copy> RequestStore<W> for MapRequests<W, A> {
         self.empty = 0;
         self.unread.clear();
     }
+
+    fn end(self) {}
 }
 
 /// Whether this many more requests do not fit, and at least half of the map is empty entries.

@@ -231,4 +231,8 @@ impl<W: Drop, S: RequestStore<W>> QueueTable<W> for QueuesOf<W, S> {
         let _off = self.interrupts.off;
         let _count = self.requests.len();
     }
+
+    fn end(self) {
+        self.requests.end();
+    }
 }

@@ -78,4 +78,7 @@ pub trait RequestStore<W: Drop> {
     /// Takes all requests out.
     fn clear(&mut self)
         ensures { entries self.new ≡ [] };
+
+    /// Ends it. It is a drop, whose parts are so proved in this crate, and not in each that has one.
+    fn end(self);
 }

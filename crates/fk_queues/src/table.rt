@@ -142,4 +142,7 @@ pub trait QueueTable<W: Drop> {
     fn lemma_sound(&self)
         ensures sound { IsSound (state self.now) }
         ensures few { length (state self.now).requests < 2 ^ 63 };
+
+    /// Ends it. It is a drop, whose parts are so proved in this crate, and not in each that has one.
+    fn end(self);
 }

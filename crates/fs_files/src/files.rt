@@ -206,4 +206,9 @@ impl<S: NodeStore> Files<S> {
         self.known.clear();
         self.tree.discard_nameless();
     }
+
+    /// Ends it, as a drop does.
+    pub fn end(self) {
+        self.known.end();
+    }
 }

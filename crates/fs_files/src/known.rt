@@ -75,4 +75,9 @@ impl<S: NodeStore> KnownFiles<S> {
         let is_open = self.handles.has(file);
         has_node || is_open
     }
+
+    /// Ends it, as a drop does.
+    pub(crate) fn end(self) {
+        self.nodes.end();
+    }
 }

@@ -334,6 +334,11 @@ impl<S: NodeStore> Nodes<S> {
     {
         self.store.nodes(alloc)
     }
+
+    /// Ends it, as a drop does.
+    pub(crate) fn end(self) {
+        self.store.end();
+    }
 }
 
 /// How many times a file is among these.

@@ -90,6 +90,8 @@ impl<A: Allocator + Copy> NodeRows for ListRows<A> {
     fn nodes(&self, alloc: A) -> Result<Vec<(u64, u64, u64), A>, AllocError> {
         list_slots(alloc, &self.slots)
     }
+
+    fn end(self) {}
 }
 
 /// What stands in a slot, or nothing past the last.

@@ -79,4 +79,7 @@ pub trait NodeRows {
     /// Out of memory.
     fn nodes(&self, alloc: Self::Heap) -> Result<Vec<(u64, u64, u64), Self::Heap>, AllocError>
         ensures { IfOk result (λ nodes. nodes.items ≡ listed_nodes (rows self.now)) };
+
+    /// Ends it. It is a drop, whose parts are so proved in this crate, and not in each that has one.
+    fn end(self);
 }

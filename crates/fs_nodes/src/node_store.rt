@@ -112,4 +112,7 @@ pub trait NodeStore {
     /// one.
     fn lemma_sound(&self)
         ensures { IsSoundNodeTable (table self.now) };
+
+    /// Ends it. It is a drop, whose parts are so proved in this crate, and not in each that has one.
+    fn end(self);
 }

@@ -139,4 +139,8 @@ impl<R: NodeRows> NodeStore for NodesOf<R> {
         // A field is touched so that the type's invariant is at hand.
         let _next = self.next;
     }
+
+    fn end(self) {
+        self.rows.end();
+    }
 }

@@ -98,6 +98,8 @@ impl<A: Allocator + Copy> NodeRows for SlabRows<A> {
     fn nodes(&self, alloc: A) -> Result<Vec<(u64, u64, u64), A>, AllocError> {
         list_nodes(alloc, &self.nodes)
     }
+
+    fn end(self) {}
 }
 
 /// The nodes in rising nodeid, each with its generation and its lookup count.

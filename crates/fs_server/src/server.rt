@@ -159,9 +159,9 @@ impl<S: NodeStore> ServerOf<S> {
     }
 }
 
-impl<S: NodeStore + Drop> ServerOf<S> {
+impl<S: NodeStore> ServerOf<S> {
     /// Ends the server. It is a drop, whose parts are so proved in one crate, and not in each that has a server.
     pub fn end(self) {
-        drop(self);
+        self.files.end();
     }
 }

@@ -65,7 +65,7 @@ fn listed_to<A: Allocator>(answer: &Answer<A>) -> Option<u64>
 }
 
 /// The first of these nodes that may be evicted.
-fn first_unused<Q: QueueTable<Purpose> + Drop, C: CountTable<Heap = Q::Heap> + Drop>(
+fn first_unused<Q: QueueTable<Purpose>, C: CountTable<Heap = Q::Heap>>(
     kernel: &KernelOf<Q, C>,
     nodes: &[(u64, u64, u64)],
 ) -> Option<u64>

@@ -14,7 +14,7 @@ use fw_world::{Event, Outcome};
 /// # Errors
 ///
 /// As the kernel refuses it. Nothing is then changed.
-pub(crate) fn act<Q: QueueTable<Purpose> + Drop, C: CountTable<Heap = Q::Heap> + Drop>(
+pub(crate) fn act<Q: QueueTable<Purpose>, C: CountTable<Heap = Q::Heap>>(
     kernel: &mut KernelOf<Q, C>,
     event: &Event<'_>,
 ) -> Result<Outcome, Refusal>

@@ -32,8 +32,13 @@ impl<'p, 'a, T: Tables> FileOrders<'p, 'a, T> {
         ensures { IfOk result (λ r. LeadsIn (parts_of self.now.parts.now) choices.now r.0 r.1.items) }
     {
         let mut moment = Moment::<T>::new(self.alloc)?;
-        let standing = follow(&mut moment, Place::Between, self.parts, choices)?;
-        Ok((standing, moment.into_script()))
+        match follow(&mut moment, Place::Between, self.parts, choices) {
+            Ok(standing) => Ok((standing, moment.into_script())),
+            Err(stop) => {
+                moment.end();
+                Err(stop)
+            }
+        }
     }
 }
 

@@ -80,15 +80,26 @@ impl<T: Tables> Moment<T> {
             left: 0,
             messages: 0,
         };
-        moment.carry(&Act::Event {
+        let mounted = moment.carry(&Act::Event {
             event: Event::Mount {
                 found_ms: 0,
                 missing_ms: 0,
                 minor: Minor::M31,
             },
             text: b"mount 0 0",
-        })?;
-        Ok(moment)
+        });
+        match mounted {
+            Ok(_) => Ok(moment),
+            Err(stop) => {
+                moment.end();
+                Err(stop)
+            }
+        }
+    }
+
+    /// Ends the moment.
+    pub(crate) fn end(self) {
+        self.world.end();
     }
 
     /// Ends the moment, and gives its script.

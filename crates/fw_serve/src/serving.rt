@@ -36,7 +36,7 @@ fn status_at(end: Option<DeviceEnd>) -> u8
 }
 
 /// The server at its mount.
-fn mounted<S: NodeStore + Drop>(alloc: S::Heap, mount: Mount) -> Result<ServerOf<S>, AllocError>
+fn mounted<S: NodeStore>(alloc: S::Heap, mount: Mount) -> Result<ServerOf<S>, AllocError>
     requires found { mount.validity.found_ms ≤ max_validity }
     requires missing { mount.validity.missing_ms ≤ max_validity }
     ensures { IfOk result (λ server. server ≡ server_at_mount mount) }
@@ -93,7 +93,7 @@ fn print_end<S: NodeStore, F: Write>(
 }
 
 /// Serves a mount until its device ends.
-fn serve_mount<S: NodeStore + Drop, D: Device, F: Write>(
+fn serve_mount<S: NodeStore, D: Device, F: Write>(
     alloc: S::Heap,
     mount: Mount,
     device: &mut D,

@@ -23,7 +23,7 @@ use std::alloc::Allocator;
 use std::io::{BufRead, Write};
 
 /// One event happens, and what it came to is printed.
-fn run_event<Q: QueueTable<Purpose> + Drop, C: CountTable<Heap = Q::Heap> + Drop, W: Write>(
+fn run_event<Q: QueueTable<Purpose>, C: CountTable<Heap = Q::Heap>, W: Write>(
     kernel: &mut KernelOf<Q, C>,
     event: &KernelEvent<'_>,
     form: Form,
@@ -38,7 +38,7 @@ fn run_event<Q: QueueTable<Purpose> + Drop, C: CountTable<Heap = Q::Heap> + Drop
 }
 
 /// Bytes that stand in hex are written as a reply.
-fn write_reply<Q: QueueTable<Purpose> + Drop, C: CountTable<Heap = Q::Heap> + Drop, W: Write>(
+fn write_reply<Q: QueueTable<Purpose>, C: CountTable<Heap = Q::Heap>, W: Write>(
     kernel: &mut KernelOf<Q, C>,
     bytes: &mut Vec<u8, Q::Heap>,
     hex: &[u8],
@@ -55,7 +55,7 @@ fn write_reply<Q: QueueTable<Purpose> + Drop, C: CountTable<Heap = Q::Heap> + Dr
 }
 
 /// A call begins that puts bytes into an open file, which stand in hex.
-fn begin_write<Q: QueueTable<Purpose> + Drop, C: CountTable<Heap = Q::Heap> + Drop, W: Write>(
+fn begin_write<Q: QueueTable<Purpose>, C: CountTable<Heap = Q::Heap>, W: Write>(
     kernel: &mut KernelOf<Q, C>,
     bytes: &mut Vec<u8, Q::Heap>,
     place: (u64, u64),
@@ -83,7 +83,7 @@ fn begin_write<Q: QueueTable<Purpose> + Drop, C: CountTable<Heap = Q::Heap> + Dr
 }
 
 /// Prints the nodes that the kernel counts.
-fn show<Q: QueueTable<Purpose> + Drop, C: CountTable<Heap = Q::Heap> + Drop, W: Write>(
+fn show<Q: QueueTable<Purpose>, C: CountTable<Heap = Q::Heap>, W: Write>(
     alloc: Q::Heap,
     kernel: &KernelOf<Q, C>,
     form: Form,
@@ -96,7 +96,7 @@ fn show<Q: QueueTable<Purpose> + Drop, C: CountTable<Heap = Q::Heap> + Drop, W: 
 }
 
 /// Does what a line says, and prints what it came to. `bytes` is room for what stands in hex.
-fn run_line<Q: QueueTable<Purpose> + Drop, C: CountTable<Heap = Q::Heap> + Drop, W: Write>(
+fn run_line<Q: QueueTable<Purpose>, C: CountTable<Heap = Q::Heap>, W: Write>(
     alloc: Q::Heap,
     kernel: &mut KernelOf<Q, C>,
     bytes: &mut Vec<u8, Q::Heap>,
@@ -129,7 +129,7 @@ struct Room<A: Allocator> {
 }
 
 /// Does what a line says, if it says anything, and hands on what was printed.
-fn do_line<Q: QueueTable<Purpose> + Drop, C: CountTable<Heap = Q::Heap> + Drop, W: Write>(
+fn do_line<Q: QueueTable<Purpose>, C: CountTable<Heap = Q::Heap>, W: Write>(
     alloc: Q::Heap,
     kernel: &mut KernelOf<Q, C>,
     room: &mut Room<Q::Heap>,
@@ -153,12 +153,7 @@ fn do_line<Q: QueueTable<Purpose> + Drop, C: CountTable<Heap = Q::Heap> + Drop, 
 }
 
 /// Reads the next line and does what it says. Says whether there was one.
-fn run_next<
-    Q: QueueTable<Purpose> + Drop,
-    C: CountTable<Heap = Q::Heap> + Drop,
-    R: BufRead,
-    W: Write,
->(
+fn run_next<Q: QueueTable<Purpose>, C: CountTable<Heap = Q::Heap>, R: BufRead, W: Write>(
     alloc: Q::Heap,
     kernel: &mut KernelOf<Q, C>,
     room: &mut Room<Q::Heap>,
@@ -180,8 +175,8 @@ fn run_next<
 /// Does what the next lines say, until the input ends.
 fn run_lines<
     A: Allocator + Copy,
-    Q: QueueTable<Purpose, Heap = A> + Drop,
-    C: CountTable<Heap = A> + Drop,
+    Q: QueueTable<Purpose, Heap = A>,
+    C: CountTable<Heap = A>,
     R: BufRead,
     W: Write,
 >(alloc: A, kernel: &mut KernelOf<Q, C>, form: Form, input: &mut R, out: &mut W) -> Result<(), End>

@@ -83,7 +83,7 @@ fn print_answered<A: Allocator + Copy, W: Write>(
 }
 
 /// Collects the answers that wait, in rising number of their calls, and prints them.
-fn print_answers<Q: QueueTable<Purpose> + Drop, C: CountTable<Heap = Q::Heap> + Drop, W: Write>(
+fn print_answers<Q: QueueTable<Purpose>, C: CountTable<Heap = Q::Heap>, W: Write>(
     out: &mut W,
     form: Form,
     kernel: &mut KernelOf<Q, C>,
@@ -103,11 +103,7 @@ fn print_answers<Q: QueueTable<Purpose> + Drop, C: CountTable<Heap = Q::Heap> + 
 /// # Errors
 ///
 /// The output refused.
-pub(crate) fn print_kernel_step<
-    Q: QueueTable<Purpose> + Drop,
-    C: CountTable<Heap = Q::Heap> + Drop,
-    W: Write,
->(
+pub(crate) fn print_kernel_step<Q: QueueTable<Purpose>, C: CountTable<Heap = Q::Heap>, W: Write>(
     out: &mut W,
     form: Form,
     step: &KernelStep<Q::Heap>,

@@ -13,13 +13,13 @@ pub trait Tables {
     type Heap: Allocator + Copy;
 
     /// The kernel's requests, pending and in processing, its interrupts and its forgets.
-    type Queues: QueueTable<Purpose, Heap = Self::Heap> + Drop;
+    type Queues: QueueTable<Purpose, Heap = Self::Heap>;
 
     /// The nodes that the kernel counts.
-    type Counts: CountTable<Heap = Self::Heap> + Drop;
+    type Counts: CountTable<Heap = Self::Heap>;
 
     /// The nodes that the server holds.
-    type Nodes: NodeStore<Heap = Self::Heap> + Drop;
+    type Nodes: NodeStore<Heap = Self::Heap>;
 }
 
 /// Maps and slabs: one of `n` entries is found in log `n` steps at most, whatever numbers a peer picks.

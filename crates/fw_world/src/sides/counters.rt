@@ -12,11 +12,10 @@ use fs_server::ServerOf;
 use fuse_spec::Purpose;
 
 /// No counter of a world with this kernel and this server is past its end.
-pub(super) fn lemma_in_range<
-    Q: QueueTable<Purpose> + Drop,
-    C: CountTable<Heap = Q::Heap> + Drop,
-    S: NodeStore,
->(kernel: &KernelOf<Q, C>, server: &ServerOf<S>)
+pub(super) fn lemma_in_range<Q: QueueTable<Purpose>, C: CountTable<Heap = Q::Heap>, S: NodeStore>(
+    kernel: &KernelOf<Q, C>,
+    server: &ServerOf<S>,
+)
     ensures { (world : WorldState) → world.kernel ≡ kernel.now → world.server ≡ server.now → is_past world ≡ false }
 {
     kernel.lemma_in_range();

@@ -6,6 +6,7 @@ use Rattle.fk_kernel.proofs.kernel.KernelOf.mount.Goals as goal
 pub invariant_of-self : goal.invariant_of-self
 invariant_of-self g c =
     rw (
+      c.replace.ensures.after,
       c.enqueue-init.ensures.state,
       c.reserve.ensures.state,
       c.new-queues.ensures,
