@@ -1,3 +1,2 @@
 pub mod NoHeader
 pub mod Ranges
-pub mod Writes

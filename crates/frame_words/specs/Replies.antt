@@ -16,7 +16,8 @@ use Rattle.fuse_replies.specs.Replies.{AnswerContent, ReplyMessage}
 use Rattle.fuse_replies.specs.Replies as answer
 use Rattle.frame_words.specs.Errors.{error_words}
 use Rattle.frame_words.specs.InitFlags.{init_flag_words}
-use Rattle.frame_words.specs.Words.{data_words, name_words, number_words, printed_byte}
+use Rattle.frame_words.specs.Words.{data_words, name_words, number_words}
+use Rattle.fuse_text.specs.Printed.{printed_byte}
 
 -- the kind of a file, by the four type bits
 unfoldable pub type_word : ℕ → List ℕ

@@ -1,6 +1,8 @@
 -- Numbers, names and bytes in words, each after a space.
 use Rattle.std.specs.Prelude.{ℕ, List, [], ◌∷◌, ◌++◌, ◌&&◌, Option, Some, None, codes, decimal, if◌then◌else◌, length, map, nat_le, take}
 use Rattle.hex.specs.Hex.{encode_lower}
+use Rattle.fuse_text.specs.HexTexts.{hex_or_none}
+use Rattle.fuse_text.specs.Printed.{printed_byte}
 
 -- ` WORD NUMBER`
 unfoldable pub number_words : (word : List ℕ) → ℕ → List ℕ
@@ -11,10 +13,6 @@ unfoldable pub number_words_if : (word : List ℕ) → Option ℕ → List ℕ
 number_words_if word None = []
 number_words_if word (Some number) = number_words word number
 
--- `?` stands for a byte of a name that is outside 33 to 126
-abbrev pub printed_byte : ℕ → ℕ
-printed_byte byte = if nat_le 33 byte && nat_le byte 126 then byte else 63
-
 -- ` WORD NAME`
 unfoldable pub name_words : (word name : List ℕ) → List ℕ
 name_words word name = codes " " ++ word ++ codes " " ++ map printed_byte name
@@ -22,11 +20,6 @@ name_words word name = codes " " ++ word ++ codes " " ++ map printed_byte name
 -- how many bytes of data are printed
 abbrev pub most_printed : ℕ
 most_printed = 32
-
--- the hex of bytes, `-` where there are none
-abbrev pub hex_or_none : List ℕ → List ℕ
-hex_or_none [] = codes "-"
-hex_or_none (byte ∷ rest) = encode_lower (byte ∷ rest)
 
 -- ` data HEX`: the first bytes, and `..` where there are more
 unfoldable pub data_words : List ℕ → List ℕ

@@ -9,11 +9,12 @@ ghost use Rattle.frame_words.specs.Replies.{answer_words, attributes_words, entr
 
 use crate::errors::write_error;
 use crate::init_flags::write_init_flags;
-use crate::words::{write_data, write_name, write_number};
+use crate::words::{write_data, write_number};
 use fuse_protocol::{InitReply, Opcode};
 use fuse_replies::{
     Answer, Attributes, Entry, EntryRecord, EntryRecords, Opened, Record, Records, Reply, Validity,
 };
+use fuse_text::print_name;
 use std::io;
 use std::io::Write;
 
@@ -111,7 +112,7 @@ fn write_record<W: Write>(out: &mut W, listed: Record<'_>) -> io::Result<()>
     let off = listed.off;
     let kind = word_of_type(listed.kind);
     out.write_all(b" ")?;
-    write_name(out, listed.name)?;
+    print_name(out, listed.name)?;
     write!(out, ":{off}:{kind}")
 }
 

@@ -3,8 +3,9 @@
 ghost use Rattle.std.specs.Prelude.{◌≡◌, ◌≤◌, ◌++◌, OnOk, codes, length, map, take};
 ghost use Rattle.std.specs.Io.KnownBytes.{Appends};
 ghost use Rattle.hex.specs.Hex.{encode_lower};
-ghost use Rattle.frame_words.specs.Words.{data_words, hex_or_none, name_words, number_words, number_words_if, printed_byte};
+ghost use Rattle.frame_words.specs.Words.{data_words, name_words, number_words, number_words_if};
 
+use fuse_text::{print_hex, print_hex_or_none, print_name};
 use std::io;
 use std::io::Write;
 
@@ -34,56 +35,13 @@ pub(crate) fn write_number_if<W: Write>(
     }
 }
 
-/// How a byte of a name is printed: `?` stands for one outside 33 to 126.
-fn printed(byte: u8) -> u8
-    ensures { result ≡ printed_byte byte }
-{
-    if 33 <= byte && byte <= 126 {
-        byte
-    } else {
-        b'?'
-    }
-}
-
-/// Writes the bytes of a name.
-pub(crate) fn write_name<W: Write>(out: &mut W, name: &[u8]) -> io::Result<()>
-    ensures { OnOk result (Appends (W.contents out.old) (W.contents out.new) (map printed_byte name.now)) }
-{
-    for byte in name {
-        out.write_all(&[printed(*byte)])?;
-    }
-    Ok(())
-}
-
 /// Writes ` WORD NAME`.
 #[tactic(auto, unfolding(crate::specs::Words::name_words))]
 pub(crate) fn write_named<W: Write>(out: &mut W, word: &str, name: &[u8]) -> io::Result<()>
     ensures { OnOk result (Appends (W.contents out.old) (W.contents out.new) (name_words word.now name.now)) }
 {
     write!(out, " {word} ")?;
-    write_name(out, name)
-}
-
-/// Writes no more bytes than are printed of data as hex.
-fn write_hex<W: Write>(out: &mut W, bytes: &[u8]) -> io::Result<()>
-    requires { length bytes.now ≤ 32 }
-    ensures { OnOk result (Appends (W.contents out.old) (W.contents out.new) (encode_lower bytes.now)) }
-{
-    let mut digits = [0; 2 * MOST];
-    let text = &mut digits[..2 * bytes.len()];
-    let _encoded = hex::encode_to_slice(bytes, text);
-    out.write_all(text)
-}
-
-/// Writes the same, `-` where there are none.
-fn write_hex_or_none<W: Write>(out: &mut W, bytes: &[u8]) -> io::Result<()>
-    requires { length bytes.now ≤ 32 }
-    ensures { OnOk result (Appends (W.contents out.old) (W.contents out.new) (hex_or_none bytes.now)) }
-{
-    if bytes.is_empty() {
-        return out.write_all(b"-");
-    }
-    write_hex(out, bytes)
+    print_name(out, name)
 }
 
 /// Writes the first bytes as hex, and `..`.
@@ -92,7 +50,7 @@ fn write_beginning<W: Write>(out: &mut W, bytes: &[u8]) -> io::Result<()>
     ensures { OnOk result (Appends (W.contents out.old) (W.contents out.new)
         (encode_lower (take 32 bytes.now) ++ codes "..")) }
 {
-    write_hex(out, &bytes[..MOST])?;
+    print_hex(out, &bytes[..MOST])?;
     out.write_all(b"..")
 }
 
@@ -103,7 +61,7 @@ pub(crate) fn write_data<W: Write>(out: &mut W, bytes: &[u8]) -> io::Result<()>
 {
     out.write_all(b" data ")?;
     if bytes.len() <= MOST {
-        write_hex_or_none(out, bytes)
+        print_hex_or_none(out, bytes)
     } else {
         write_beginning(out, bytes)
     }

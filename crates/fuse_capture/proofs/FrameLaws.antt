@@ -6,7 +6,7 @@ use Rattle.fuse_capture.specs.declared.line.CaptureFault.TheVariants.{BadHex, Wr
 use Rattle.fuse_capture.specs.declared.line.CapturedFrame.{CapturedFrame}
 use Rattle.fuse_capture.specs.Lines.{IsHexWord, IsMoreWord, BeginsWithFrame, BeginsWithTimedFrame, HasBadHex, whole, cut, longest_frame}
 use Rattle.fuse_capture.specs.Readings.{AreBytes, HasNoMark, HasNoMore, IsPairs, KeptFaultIs, FrameFaultIs, IsTimeOf, ReadsFrame, ReadsKept, SaysOfHex, BeginsWithBadHex}
-use Rattle.fuse_capture.proofs.Decimals.{decimal_once}
+use Rattle.fuse_text.proofs.Decimals.{decimal_once}
 use Rattle.fuse_capture.proofs.HexLaws.{hex_spells, pairs_spell, no_marked_hex}
 
 -- ---- what begins

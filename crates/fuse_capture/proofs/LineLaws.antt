@@ -9,7 +9,8 @@ use Rattle.fuse_capture.specs.declared.line.CaptureFault.{CaptureFault}
 use Rattle.fuse_capture.specs.declared.line.CaptureFault.TheVariants.{BadHex, WrongWords, UnknownDirection}
 use Rattle.fuse_capture.specs.declared.line.CapturedFrame.{CapturedFrame}
 use Rattle.fuse_capture.specs.declared.line.CaptureLine.TheVariants as line
-use Rattle.fuse_capture.specs.Lines.{BeginsWithTimedFrame, HasBadHex, HasNoDirection, HasNoTransfer, IsFaultOf, IsOfFrame, IsResult, IsTextOf, LineFaultIs, SaysTransfer, words_of}
+use Rattle.fuse_capture.specs.Lines.{BeginsWithTimedFrame, HasBadHex, HasNoDirection, HasNoTransfer, IsFaultOf, IsOfFrame, IsResult, IsTextOf, LineFaultIs, SaysTransfer}
+use Rattle.fuse_text.specs.Words.{words_of}
 use Rattle.fuse_capture.specs.Readings.{AreRead, FrameFaultIs, HasNoMore, IsBad, IsTimeOf, IsTransferOf, ReadsFrame, SaysOfHex}
 use Rattle.fuse_capture.proofs.ResultLaws.{differs, result_is_no_more}
 

@@ -1,7 +1,7 @@
 -- The lines of a capture: what went over a device, a line a transfer. (this project's format)
 use Rattle.std.specs.Prelude.{◌≡◌, ◌≢◌, ◌+◌, ◌<◌, ◌≤◌, ◌^◌, ◌⊎◌, ◌++◌, ◌∷◌, [], ◌==◌, ℕ, List, All, Ok, codes, decimal, length, replicate, slice_index}
-use Rattle.std.specs.List.{slice_split}
 use Rattle.hex.specs.Hex.{decode_of}
+use Rattle.fuse_text.specs.Words.{words_of}
 use Rattle.fuse_sessions.specs.declared.act.Taken.{Taken}
 use Rattle.fuse_sessions.specs.declared.act.Taken.TheVariants as taken
 use Rattle.fuse_sessions.specs.declared.transfer.Transfer.{Transfer}
@@ -14,10 +14,6 @@ use Rattle.fuse_capture.specs.declared.line.CaptureFault.TheVariants as fault
 -- The text of a line: without the carriage return at its end, if it has one.
 abbrev pub IsTextOf : (line text : List ℕ) → Type 0
 IsTextOf line text = (line ≡ text ++ 13 ∷ []) ⊎ ((line ≡ text) × ((start : List ℕ) → line ≢ start ++ 13 ∷ []))
-
--- the words of a text, between its spaces
-abbrev pub words_of : List ℕ → List (List ℕ)
-words_of text = slice_split (λ byte. byte == 32) text
 
 -- one or more bytes, in hex of either case
 abbrev pub IsHexWord : (word bytes : List ℕ) → Type 0

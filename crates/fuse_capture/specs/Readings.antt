@@ -9,12 +9,8 @@ use Rattle.fuse_capture.specs.declared.line.CaptureFault.TheVariants as fault
 use Rattle.fuse_capture.specs.declared.line.CapturedFrame.{CapturedFrame}
 use Rattle.fuse_capture.specs.declared.line.CaptureLine.{CaptureLine}
 use Rattle.fuse_capture.specs.declared.line.CaptureLine.TheVariants as line
-use Rattle.fuse_capture.specs.Lines.{words_of, IsHexWord, IsMoreWord, IsTimeWord, BeginsWithFrame, BeginsWithTimedFrame, HasBadHex, SaysTransfer, IsFaultOf}
-
--- the words that are left, none where no space came before them
-abbrev pub words_left : Option (List ℕ) → List (List ℕ)
-words_left None = []
-words_left (Some text) = words_of text
+use Rattle.fuse_text.specs.Words.{words_left}
+use Rattle.fuse_capture.specs.Lines.{IsHexWord, IsMoreWord, IsTimeWord, BeginsWithFrame, BeginsWithTimedFrame, HasBadHex, SaysTransfer, IsFaultOf}
 
 -- the first of the words is no number below 2^64 behind a mark
 abbrev pub HasNoMark : ℕ → List (List ℕ) → Type 0

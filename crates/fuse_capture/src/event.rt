@@ -2,7 +2,8 @@
 
 ghost use Rattle.std.specs.Prelude.{◌≡◌, ◌≢◌, ◌∷◌, ◌↔◌, [], ℕ, List, IsTrue, MatchOption, MatchResult, codes, option_copied};
 ghost use Rattle.fuse_capture.specs.Lines.{IsErrno};
-ghost use Rattle.fuse_capture.specs.Readings.{AreRead, IsBad, words_left};
+ghost use Rattle.fuse_capture.specs.Readings.{AreRead, IsBad};
+ghost use Rattle.fuse_text.specs.Words.{words_left};
 
 use crate::line::{CaptureFault, CaptureLine};
 use crate::outcome::is_errno;

@@ -2,7 +2,8 @@
 
 ghost use Rattle.std.specs.Prelude.{◌≡◌, MatchResult, IsTrue, ◌↔◌, ◌≤◌, ◌+◌, ◌/◌, length, option_copied};
 ghost use Rattle.fuse_capture.specs.Lines.{longest_frame};
-ghost use Rattle.fuse_capture.specs.Readings.{FrameFaultIs, KeptFaultIs, ReadsFrame, ReadsKept, words_left};
+ghost use Rattle.fuse_capture.specs.Readings.{FrameFaultIs, KeptFaultIs, ReadsFrame, ReadsKept};
+ghost use Rattle.fuse_text.specs.Words.{words_left};
 
 use crate::hex_word::is_hex_word;
 use crate::line::{CaptureFault, CapturedFrame};

@@ -3,7 +3,7 @@
 ghost use Rattle.std.specs.Prelude.{◌≡◌, ◌↔◌, ◌∷◌, [], IsTrue, MatchOption, option_copied};
 ghost use Rattle.fuse_sessions.specs.declared.act.Taken.{Taken};
 ghost use Rattle.fuse_capture.specs.Lines.{IsErrno, IsErrnoByte, IsResult};
-ghost use Rattle.fuse_capture.specs.Readings.{words_left};
+ghost use Rattle.fuse_text.specs.Words.{words_left};
 
 use crate::parts::one_word;
 use fuse_sessions::Taken;

@@ -3,14 +3,16 @@
 ghost use Rattle.std.specs.Prelude.{◌≡◌, ◌∷◌, ◌↔◌, ◌⊎◌, [], ℕ, List, IfErr, IfOk, IfSome, IsTrue, MatchOption, MatchResult, codes};
 ghost use Rattle.std.specs.Prelude.{length, option_copied, slice_index};
 ghost use Rattle.fuse_sessions.specs.declared.transfer.Transfer.{Transfer};
-ghost use Rattle.fuse_capture.specs.Lines.{HasNoTransfer, IsPassedOver, IsTextOf, LineFaultIs, LineSays, words_of};
-ghost use Rattle.fuse_capture.specs.Readings.{AreRead, HasTime, IsBad, IsTransferOf, words_left};
+ghost use Rattle.fuse_capture.specs.Lines.{HasNoTransfer, IsPassedOver, IsTextOf, LineFaultIs, LineSays};
+ghost use Rattle.fuse_text.specs.Words.{words_of};
+ghost use Rattle.fuse_capture.specs.Readings.{AreRead, HasTime, IsBad, IsTransferOf};
+ghost use Rattle.fuse_text.specs.Words.{words_left};
 
 use crate::event::read_event;
 use crate::frame::read_frame;
 use crate::line::{CaptureFault, CaptureLine};
 use crate::outcome::read_taken;
-use crate::parts::split_word;
+use fuse_text::split_word;
 
 /// The text of a line: without a carriage return at its end.
 fn text_of(line: &[u8]) -> &[u8]

@@ -2,9 +2,9 @@
 use Rattle.std.proofs.Common.{◌≡◌, ℕ, List, [], ◌∷◌, Option, zero, suc, arith, refl}
 use Rattle.std.specs.Prelude.{Contains}
 use Rattle.hex.specs.Hex.{IsBytes}
-use Rattle.fw_frames.specs.HexTexts.{SpellsHex}
-use Rattle.fw_frames.specs.declared.hex_text.HexFault.{HexFault}
-use Rattle.fw_frames.specs.declared.hex_text.HexFault.TheVariants as hex_fault
+use Rattle.fuse_text.specs.HexTexts.{SpellsHex}
+use Rattle.fuse_text.specs.declared.hex_text.HexFault.{HexFault}
+use Rattle.fuse_text.specs.declared.hex_text.HexFault.TheVariants as hex_fault
 use Rattle.fw_any.specs.Endings.{EndsAtHex, hex_status_of}
 
 -- those of a command on one frame are those of one that also names an opcode

@@ -5,9 +5,9 @@ use Rattle.fuse_protocol.specs.Agreement.{before_init}
 use Rattle.fuse_protocol.specs.Table.{name_of}
 use Rattle.fuse_protocol.specs.declared.opcode.Opcode.{Opcode}
 use Rattle.frame_words.specs.Frames.{IsReplyText, IsRequestText}
-use Rattle.fw_frames.specs.HexTexts.{SpellsHex}
-use Rattle.fw_frames.specs.declared.hex_text.HexFault.{HexFault}
-use Rattle.fw_frames.specs.declared.hex_text.HexFault.TheVariants as hex_fault
+use Rattle.fuse_text.specs.HexTexts.{SpellsHex}
+use Rattle.fuse_text.specs.declared.hex_text.HexFault.{HexFault}
+use Rattle.fuse_text.specs.declared.hex_text.HexFault.TheVariants as hex_fault
 use Rattle.hex.specs.Hex.{IsBytes}
 
 -- 1 where the text is no hex, 3 where memory runs out

@@ -8,7 +8,7 @@ ghost use Rattle.fw_any.specs.Endings.{EndsAnyFrame, PrintsLine};
 use crate::hex_fault::report_hex;
 use frame_words::write_request_frame;
 use fuse_protocol::BEFORE_INIT;
-use fw_frames::read_hex;
+use fuse_text::read_hex;
 use std::alloc::Allocator;
 use std::io;
 use std::io::Write;

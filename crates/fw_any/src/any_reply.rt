@@ -9,7 +9,7 @@ use crate::hex_fault::report_hex;
 use crate::opcode_name::any_opcode_of_name;
 use frame_words::write_reply_frame;
 use fuse_protocol::{BEFORE_INIT, Opcode, RequestHead};
-use fw_frames::read_hex;
+use fuse_text::read_hex;
 use std::alloc::Allocator;
 use std::io;
 use std::io::Write;

@@ -3,7 +3,7 @@
 ghost use Rattle.std.specs.Prelude.{◌≡◌};
 ghost use Rattle.fw_any.specs.Endings.{hex_status_of};
 
-use fw_frames::HexFault;
+use fuse_text::HexFault;
 use std::io::Write;
 
 /// Says why a text was not read, and gives the exit status. What `faults` refuses is lost.

@@ -9,7 +9,7 @@ use crate::sample_list::{Sample, SampleDirection};
 use frame_words::{words_of_reply_fault, words_of_shape_fault};
 use fuse_protocol::{BEFORE_INIT, Opcode, RequestHead, read_request, row_of};
 use fuse_replies::read_reply;
-use fw_frames::write_hex;
+use fuse_text::print_hex;
 use std::alloc::Allocator;
 use std::io;
 use std::io::Write;
@@ -41,7 +41,7 @@ fn write_frame<W: Write>(out: &mut W, frame: &[u8]) -> io::Result<()>
     ensures { OnOk result (Appends (W.contents out.old) (W.contents out.new) (frame_member frame.now)) }
 {
     out.write_all(b"\"hex\":\"")?;
-    write_hex(out, frame)?;
+    print_hex(out, frame)?;
     out.write_all(b"\",")
 }
 

@@ -3,8 +3,8 @@ use Rattle.std.proofs.Common.{◌≡◌, ◌++◌, ◌∷◌, [], ◌∙◌, ℕ
 use Rattle.std.specs.Prelude.{bytes_eq, codes, decimal, fold, option_map, option_to_list}
 use Rattle.std.specs.Option.{option_map_or}
 use Rattle.std.proofs.lemmas.List.{map-append}
-use Rattle.fw_script.specs.Scripts.{lines_of}
-use Rattle.fw_script.specs.Words.{words_of}
+use Rattle.fuse_text.specs.Lines.{lines_of}
+use Rattle.fuse_text.specs.Words.{words_of}
 use Rattle.fw_call_names.specs.Naming.{Named, Names, call_begun, call_numbered, first_numbered, given_line, given_words, is_of_open, name_in, names_bound, newer, next_line, no_line, number_made, number_of, rest_numbered, with_numbers, without_name}
 use Rattle.fw_call_names.specs.PlainScripts.{AreAlike, BeginAlike, IsAlike, names_behind, plain_lines, plain_script}
 use Rattle.fw_call_names.proofs.Givens.{words_of_given}

@@ -5,7 +5,7 @@ use Rattle.std.specs.List.{join_with_byte}
 use Rattle.std.specs.Option.{option_map_or}
 use Rattle.std.specs.Borrow.{Bor}
 use Rattle.std.proofs.lemmas.List.{length-map, length-take, take-map}
-use Rattle.fw_script.specs.Words.{words_of}
+use Rattle.fuse_text.specs.Words.{words_of}
 use Rattle.fw_call_names.specs.Naming.{Named, Names, call_begun, names_bound, call_numbered, first_numbered, given_line, given_words, gives_name, is_name, is_of_open, next_line, no_line, number_of, rest_numbered, with_numbers, without_name, word_at}
 use Rattle.fw_call_names.proofs.Joining.{AreWithout, IsWithout, decimal_without, joined_behind, parts_without, split_joined, some_words}
 

@@ -4,8 +4,8 @@ use Rattle.std.specs.Prelude.{flat_map}
 use Rattle.std.specs.List.{join_with_byte, onto_first, slice_split}
 use Rattle.std.proofs.lemmas.List.{length-append, take_at}
 use Rattle.std.proofs.lemmas.List.Splits.{join_with_byte-slice_split, length-slice_split}
-use Rattle.fw_script.specs.Scripts.{lines_of}
-use Rattle.fw_script.specs.Words.{words_of}
+use Rattle.fuse_text.specs.Lines.{lines_of}
+use Rattle.fuse_text.specs.Words.{words_of}
 use Rattle.fw_call_names.specs.Naming.{Names, given_line, given_words}
 use Rattle.fw_call_names.specs.PlainScripts.{names_behind, plain_lines, plain_script}
 use Rattle.fw_call_names.proofs.Givens.{given_without}

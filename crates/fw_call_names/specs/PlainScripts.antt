@@ -1,7 +1,7 @@
 -- A script without names, for one in which calls have names.
 use Rattle.std.specs.Prelude.{◌≡◌, ◌⊎◌, ◌++◌, ◌∷◌, [], ℕ, List, decimal, option_to_list}
-use Rattle.fw_script.specs.Scripts.{lines_of}
-use Rattle.fw_script.specs.Words.{words_of}
+use Rattle.fuse_text.specs.Lines.{lines_of}
+use Rattle.fuse_text.specs.Words.{words_of}
 use Rattle.fw_call_names.specs.Naming.{Names, call_begun, given_line}
 
 -- the names behind a line: as no call is made, each stands for call 1

@@ -1,7 +1,7 @@
 //! The line that stands for one in which calls have names.
 
 ghost use Rattle.std.specs.Prelude.{◌≡◌, IfOk, option_copied};
-ghost use Rattle.fw_script.specs.Words.{words_of};
+ghost use Rattle.fuse_text.specs.Words.{words_of};
 ghost use Rattle.fw_call_names.specs.CallNames.{names_of};
 ghost use Rattle.fw_call_names.specs.Naming.{given_line, name_in};
 

@@ -2,7 +2,7 @@
 
 ghost use Rattle.std.specs.Prelude.{◌≡◌, ◌≢◌, ◌++◌, ◌∷◌, [], ℕ, IfOk, List, MatchOption, None, OnOk, Option, flat_map, option_to_list};
 ghost use Rattle.std.specs.List.{join_with_byte};
-ghost use Rattle.fw_script.specs.Scripts.{lines_of};
+ghost use Rattle.fuse_text.specs.Lines.{lines_of};
 ghost use Rattle.fw_call_names.specs.CallNames.{begun_of, names_of};
 ghost use Rattle.fw_call_names.specs.Naming.{Named, Names, given_line};
 ghost use Rattle.fw_call_names.specs.PlainScripts as plain;

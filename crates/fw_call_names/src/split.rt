@@ -1,7 +1,7 @@
 //! The name that a line gives to the call that it begins.
 
 ghost use Rattle.std.specs.Prelude.{◌≡◌, IfOk, map, option_copied};
-ghost use Rattle.fw_script.specs.Words.{words_of};
+ghost use Rattle.fuse_text.specs.Words.{words_of};
 ghost use Rattle.fw_call_names.specs.Naming as naming;
 
 use crate::name::is_name;

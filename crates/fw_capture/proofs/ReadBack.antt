@@ -11,7 +11,8 @@ use Rattle.fuse_sessions.specs.declared.act.Taken.{Taken}
 use Rattle.fuse_sessions.specs.declared.act.Taken.TheVariants as taken
 use Rattle.fuse_sessions.specs.declared.transfer.Transfer.{Transfer as Said}
 use Rattle.fuse_sessions.specs.declared.transfer.Transfer.TheVariants as said
-use Rattle.fuse_capture.specs.Lines.{BeginsWithFrame, BeginsWithTimedFrame, IsHexWord, IsMoreWord, IsResult, IsTextOf, LineSays, SaysTransfer, cut, whole, words_of}
+use Rattle.fuse_capture.specs.Lines.{BeginsWithFrame, BeginsWithTimedFrame, IsHexWord, IsMoreWord, IsResult, IsTextOf, LineSays, SaysTransfer, cut, whole}
+use Rattle.fuse_text.specs.Words.{words_of}
 use Rattle.fuse_capture.specs.Readings.{HasNoMore}
 use Rattle.fuse_device.specs.Transfers.{Transfer, received, sent, stopped, unsent}
 use Rattle.fuse_device.specs.declared.device.DeviceEnd.{DeviceEnd}

@@ -12,7 +12,8 @@ use Rattle.fuse_spec.specs.declared.WriteResult.TheVariants.{Accepted, NoEntry, 
 use Rattle.fuse_sessions.specs.declared.act.Taken.{Taken}
 use Rattle.fuse_sessions.specs.declared.transfer.Transfer.{Transfer as Said}
 use Rattle.fuse_sessions.specs.declared.transfer.Transfer.TheVariants as said
-use Rattle.fuse_capture.specs.Lines.{BeginsWithTimedFrame, IsErrno, IsErrnoByte, IsHexWord, IsResult, IsTextOf, LineSays, whole, words_of}
+use Rattle.fuse_capture.specs.Lines.{BeginsWithTimedFrame, IsErrno, IsErrnoByte, IsHexWord, IsResult, IsTextOf, LineSays, whole}
+use Rattle.fuse_text.specs.Words.{words_of}
 use Rattle.fuse_device.specs.Transfers.{Transfer, received, sent, stopped, unsent}
 use Rattle.fuse_device.specs.declared.device.DeviceEnd.{DeviceEnd}
 use Rattle.fuse_device.specs.declared.device.DeviceEnd.TheVariants.{Ended, TimedOut, Failed}

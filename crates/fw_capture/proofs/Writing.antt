@@ -1,10 +1,25 @@
 -- Texts that a writer takes, or of which it takes a beginning.
-use Rattle.std.proofs.Common.{◌≡◌, ◌++◌, ℕ, Bool, true, false, List, [], Option, Result, Ok, Err, refl, sym, ap, ◌∙◌, append_assoc, append-nil, true≢false}
-use Rattle.std.specs.Prelude.{OnOk}
+use Rattle.std.proofs.Common.{◌≡◌, ◌++◌, ℕ, Bool, true, false, List, [], Option, Result, Ok, Err, take, drop, refl, sym, ap, ◌∙◌, append_assoc, append-nil, take-append-drop, true≢false}
+use Rattle.std.specs.Prelude.{OnErr, OnOk}
 use Rattle.std.specs.Result.{IsErr, is_err}
 use Rattle.std.specs.Io.KnownBytes.{Appends, Keeps}
 use Rattle.std.proofs.KnownBytes.{Appends-nil, Appends-trans, Appends-kept}
+use Rattle.fuse_text.specs.Outputs as Text
 use Rattle.fw_capture.specs.Captured.{AppendsSome, IsCaptured, Writes}
+
+-- what was written is a first part of the text
+pub as_begun : (old new : Option (List ℕ)) (text : List ℕ) → Text.AppendsSome old new text → AppendsSome old new text
+as_begun old new text some = record {
+  bytes = take some.count text;
+  rest = drop some.count text;
+  split = sym (take-append-drop some.count text);
+  appended = some.part;
+}
+
+pub as_written : {T E : Type 0} (r : Result T E) (old new : Option (List ℕ)) (text : List ℕ)
+    → OnOk r (Appends old new text) → OnErr r (Text.AppendsSome old new text) → Writes old new text r
+as_written (Ok x) old new text wrote some = wrote
+as_written (Err e) old new text wrote some = as_begun old new text some
 
 -- the first part, or a beginning of it
 pub some_first : (old new : Option (List ℕ)) (first rest whole : List ℕ) → whole ≡ first ++ rest

@@ -10,7 +10,8 @@ use Rattle.fuse_sessions.specs.Sessions.{Session}
 use Rattle.fuse_sessions.specs.Waiting.{waiting}
 use Rattle.fuse_capture.specs.declared.line.CaptureLine.{CaptureLine}
 use Rattle.fuse_capture.specs.declared.line.CaptureLine.TheVariants as line
-use Rattle.fuse_capture.specs.Lines.{IsPassedOver, IsTextOf, LineSays, words_of}
+use Rattle.fuse_capture.specs.Lines.{IsPassedOver, IsTextOf, LineSays}
+use Rattle.fuse_text.specs.Words.{words_of}
 use Rattle.fuse_capture.specs.Readings.{HasTime, IsTransferOf}
 use Rattle.fw_check.specs.declared.counts.Counts.{Counts}
 use Rattle.fw_check.specs.declared.options.CheckForm.{CheckForm}
@@ -21,15 +22,17 @@ use Rattle.fw_check.specs.declared.stop.Stop.{Stop}
 use Rattle.fw_check.specs.declared.stop.Stop.TheVariants.{BadLine, CannotRead, NoMemory, OutputRefused}
 use Rattle.fw_check.specs.Asked.{asked_verdicts}
 use Rattle.fw_check.specs.Checks.{Judged, Checks, passed_over, says, no_line, nothing_judged, counts_of, end_text, start_in}
-use Rattle.fw_check.specs.Endings.{lines_of}
+use Rattle.fuse_text.specs.Lines.{lines_of}
 use Rattle.fw_check.specs.Forms.{closing_text, counts_text, head_text, transfer_lines}
 use Rattle.fw_check.specs.Names.{with_names}
-use Rattle.fw_check.specs.Outputs.{AppendsSome}
+use Rattle.fuse_text.specs.Outputs.{AppendsSome}
 use Rattle.fw_check.specs.Past.{traces_of}
 use Rattle.fw_check.specs.Standing.{file_count, node_count, remains_of}
 use Rattle.fw_check.specs.Summary.{LineTimeIs, TimeIs, after_asked, line_time, table_text}
-use Rattle.fw_check.specs.Running.{AllChecked, AreCounts, CheckEnds, ChecksMore, IsJudgedSo, IsKept, IsTaken, AreLeft, IsUpTo, LineEnds, NextEnds, PrintsEnd, SaidEnds, SeenState, StopsIn, judged_after}
-use Rattle.fw_check.proofs.Writes.{Appends-append, some_first, some_then}
+use Rattle.fw_check.specs.Running.{AllChecked, AreCounts, CheckEnds, ChecksMore, IsJudgedSo, IsKept, AreLeft, IsUpTo, LineEnds, NextEnds, PrintsEnd, SaidEnds, SeenState, StopsIn, judged_after}
+use Rattle.fuse_text.specs.Lines.{IsTaken}
+use Rattle.std.proofs.KnownBytes.{Appends-trans}
+use Rattle.fuse_text.proofs.Writes.{some_first, some_then}
 
 -- ---- results
 
@@ -165,7 +168,7 @@ line_said o r lines j line number l judge c had has checks said at is h =
 printed_more : (had mid has : Option (List ℕ)) (text more next : List ℕ) → next ≡ text ++ more → Appends had mid text
     → Appends mid has more → Appends had has next
 printed_more had mid has text more next is before after =
-    subst (Appends had has) (sym is) (Appends-append had mid has text more before after)
+    subst (Appends had has) (sym is) (Appends-trans had mid has text more before after)
 
 printed_still : (had mid has : Option (List ℕ)) (text : List ℕ) → Appends had mid text → Appends mid has []
     → Appends had has text
@@ -383,7 +386,7 @@ all_ends o n (Ok done) capture judge c had mid has lefts all appends =
       judged = all.judged;
       checks = all.checks;
       counts = all.kept.counts;
-      printed = Appends-append had mid has all.judged.text (end_text o all.judged) all.printed
+      printed = Appends-trans had mid has all.judged.text (end_text o all.judged) all.printed
           (subst (Appends mid has) same appends);
     }
 all_ends o n (Err OutputRefused) capture judge c had mid has lefts all some =

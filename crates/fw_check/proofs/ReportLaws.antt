@@ -6,7 +6,8 @@ use Rattle.fw_check.specs.declared.options.CheckOptions.{CheckOptions}
 use Rattle.fw_check.specs.declared.stop.Stop.{Stop}
 use Rattle.fw_check.specs.declared.stop.Stop.TheVariants.{BadLine, CannotRead, NoMemory, OutputRefused}
 use Rattle.fw_check.specs.Checks.{Judged, finding_count}
-use Rattle.fw_check.specs.Endings.{PrintsChecked, lines_of}
+use Rattle.fw_check.specs.Endings.{PrintsChecked}
+use Rattle.fuse_text.specs.Lines.{lines_of}
 use Rattle.fw_check.specs.Running.{AllPrinted, AreCounts, IsReported, StopsIn}
 
 -- the counts that are kept are those of what was found

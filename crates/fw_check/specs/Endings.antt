@@ -1,17 +1,13 @@
 -- How the check of a capture ends, by its exit status.
-use Rattle.std.specs.Prelude.{◌≡◌, ◌⊎◌, ◌<◌, ◌+◌, ◌==◌, ℕ, List, [], ◌∷◌, ◌++◌, Option, Contains, IfSome, length}
-use Rattle.std.specs.List.{slice_split}
+use Rattle.std.specs.Prelude.{◌≡◌, ◌⊎◌, ◌<◌, ◌+◌, ℕ, List, [], ◌∷◌, ◌++◌, Option, Contains, IfSome, length}
 use Rattle.std.specs.Io.KnownBytes.{Appends}
 use Rattle.fuse_capture.specs.declared.line.CaptureFault.{CaptureFault}
 use Rattle.fuse_capture.specs.Lines.{LineFaultIs}
 use Rattle.fw_check.specs.declared.options.CheckOptions.{CheckOptions}
 use Rattle.fw_check.specs.Checks.{Judged, Checks, end_text, finding_count}
-use Rattle.fw_check.specs.Outputs.{AppendsSome}
+use Rattle.fuse_text.specs.Lines.{lines_of}
+use Rattle.fuse_text.specs.Outputs.{AppendsSome}
 use Rattle.fw_check.specs.Reports.{bad_line, unreadable}
-
--- the lines of a capture: what stands before, between and after its line feeds
-abbrev pub lines_of : List ℕ → List (List ℕ)
-lines_of capture = slice_split (λ byte. byte == 10) capture
 
 -- What was printed of a capture whose bytes are known: its first lines were judged, and what is said of them printed.
 pub record PrintsChecked (o : CheckOptions) (name capture : List ℕ) (out_old out_new faults_old faults_new : Option (List ℕ)) (status : ℕ)

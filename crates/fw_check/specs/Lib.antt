@@ -9,7 +9,6 @@ pub mod Held
 pub mod Json
 pub mod Life
 pub mod Names
-pub mod Outputs
 pub mod Past
 pub mod Reports
 pub mod Running

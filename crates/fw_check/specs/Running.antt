@@ -28,11 +28,11 @@ use Rattle.fw_check.specs.declared.stop.Stop.{Stop}
 use Rattle.fw_check.specs.declared.stop.Stop.TheVariants as stop
 use Rattle.fw_check.specs.Asked.{asked_verdicts}
 use Rattle.fw_check.specs.Checks.{Judged, Checks, end_text, faults_of, number_of}
-use Rattle.fw_check.specs.Endings.{lines_of}
+use Rattle.fuse_text.specs.Lines.{lines_of}
 use Rattle.fw_check.specs.Forms.{closing_text, fault_text, transfer_lines}
 use Rattle.fw_check.specs.Life.{doer_for}
 use Rattle.fw_check.specs.Names.{with_names, with_removal}
-use Rattle.fw_check.specs.Outputs.{AppendsSome}
+use Rattle.fuse_text.specs.Outputs.{AppendsSome}
 use Rattle.fw_check.specs.Past.{remembered, traces_of}
 use Rattle.fw_check.specs.Reports.{bad_line, unreadable}
 use Rattle.fw_check.specs.Standing.{Stands, remains_of}
@@ -261,14 +261,6 @@ PrintsEnd o e r c (Err other) had has = ⊥
 abbrev pub AreLeft : SessionState → (nodes : List (ℕ × ℕ)) → (files : List (FileKey × ℕ)) → Remains → Type 0
 AreLeft session nodes files r = (start : Known) (transfers : List Transfer) (s : Session) → HasSeenFrom start transfers s session
     → Stands s nodes files → r ≡ remains_of s
-
--- ---- reading
-
--- A line was taken from bytes, and more lines are left, or it was the last.
-abbrev pub IsTaken : (bytes : List ℕ) → (is_more : Bool) → (line : List ℕ) → (left : Option (List ℕ)) → Type 0
-IsTaken bytes true line left =
-    (rest : List ℕ) × (left ≡ Some rest) × (lines_of bytes ≡ line ∷ lines_of rest)
-IsTaken bytes false line left = lines_of bytes ≡ line ∷ []
 
 -- ---- ends
 

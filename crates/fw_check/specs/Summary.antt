@@ -16,7 +16,8 @@ use Rattle.fuse_sessions.specs.Frames.{error_in, number_in}
 use Rattle.fuse_sessions.specs.Waiting.{reaches}
 use Rattle.fuse_capture.specs.declared.line.CaptureLine.{CaptureLine}
 use Rattle.fuse_capture.specs.declared.line.CaptureLine.TheVariants as line
-use Rattle.fuse_capture.specs.Lines.{IsTextOf, words_of}
+use Rattle.fuse_capture.specs.Lines.{IsTextOf}
+use Rattle.fuse_text.specs.Words.{words_of}
 use Rattle.fuse_capture.specs.Readings.{IsTimeOf}
 use Rattle.fw_check.specs.declared.exchanges.Exchanges.{Exchanges}
 use Rattle.fw_check.specs.declared.exchanges.OpcodeCounts.{OpcodeCounts}

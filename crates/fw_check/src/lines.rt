@@ -1,23 +1,12 @@
 //! The lines of a capture, as they are read.
 
-ghost use Rattle.std.specs.Prelude.{◌≡◌, ◌≢◌, ◌⊎◌, ◌++◌, ◌∷◌, [], ℕ, List, IfErr, IfOk, IfSome, MatchBool};
-ghost use Rattle.fw_check.specs.Running.{IsTaken};
+ghost use Rattle.std.specs.Prelude.{◌≡◌, ◌⊎◌, IfErr, IfOk, IfSome};
+ghost use Rattle.fuse_text.specs.Lines.{IsTaken};
 
 use crate::stop::Stop;
+use fuse_text::LineError;
 use std::alloc::Allocator;
-use std::io::{BufRead, ErrorKind};
-
-/// Takes the line feed from the end of a line, if it has one.
-fn take_feed<A: Allocator>(line: &mut Vec<u8, A>) -> bool
-    ensures { MatchBool result (line.old.items ≡ line.new.items ++ 10 ∷ [])
-        ((line.new.items ≡ line.old.items) × ((front : List ℕ) → line.old.items ≢ front ++ 10 ∷ [])) }
-{
-    if !matches!(line.as_slice(), [.., b'\n']) {
-        return false;
-    }
-    let _feed = line.pop();
-    true
-}
+use std::io::BufRead;
 
 /// Reads the next line in place of the one before, without its line feed. Says whether a line feed ended it: after it
 /// there is another line, though it may be empty.
@@ -33,10 +22,9 @@ pub(crate) fn next_line<A: Allocator, R: BufRead>(
         (λ bytes. IsTaken bytes is_more line.new.items (R.remaining input.new))) }
     ensures refused { IfErr result (λ stop. (stop ≡ Stop.CannotRead) ⊎ (stop ≡ Stop.NoMemory)) }
 {
-    line.clear();
-    match input.read_until(b'\n', line) {
-        Ok(_) => Ok(take_feed(line)),
-        Err(error) if error.kind() == ErrorKind::OutOfMemory => Err(Stop::NoMemory),
-        Err(_) => Err(Stop::CannotRead),
+    match fuse_text::next_line(input, line) {
+        Ok(is_more) => Ok(is_more),
+        Err(LineError::NoMemory) => Err(Stop::NoMemory),
+        Err(LineError::CannotRead) => Err(Stop::CannotRead),
     }
 }

@@ -1,15 +1,15 @@
 //! Why a check ends early: its line on standard error, and its exit status.
 
 ghost use Rattle.std.specs.Prelude.{◌≡◌, ◌++◌, OnOk, codes};
-ghost use Rattle.fw_check.specs.Outputs.{AppendsSome};
+ghost use Rattle.fuse_text.specs.Outputs.{AppendsSome};
 ghost use Rattle.fw_check.specs.Reports.{bad_line, unreadable};
 ghost use Rattle.fw_check.specs.Running.{IsReported};
 
 use crate::fault_line::put_number_of_line;
-use crate::output::write_text;
 use crate::text::put;
 use crate::words::capture_words;
 use fuse_capture::CaptureFault;
+use fuse_text::write_text;
 use std::alloc::{AllocError, Allocator};
 use std::io::Write;
 

@@ -4,10 +4,12 @@ ghost use Rattle.std.specs.Prelude.{◌≡◌, ◌∷◌, [], Contains, IfErr};
 ghost use Rattle.fw_decode.specs.Statuses.{status_of};
 
 use crate::stop::Stop;
+use fuse_text::LineError;
 use std::alloc::Allocator;
-use std::io::{BufRead, ErrorKind};
+use std::io::BufRead;
 
-/// Reads the next line in place of the one before, without its line feed. Says whether there was one.
+/// Reads the next line in place of the one before, without its line feed. Says whether there was one: none follows
+/// the last line feed.
 ///
 /// # Errors
 ///
@@ -19,16 +21,9 @@ pub fn next_line<'a, A: Allocator, R: BufRead>(
 ) -> Result<bool, Stop<'a>>
     ensures { IfErr result (λ stop. Contains (1 ∷ 3 ∷ []) (status_of stop)) }
 {
-    line.clear();
-    match input.read_until(b'\n', line) {
-        Ok(0) => Ok(false),
-        Ok(_) => {
-            if line.as_slice().ends_with(b"\n") {
-                let _feed = line.pop();
-            }
-            Ok(true)
-        }
-        Err(error) if error.kind() == ErrorKind::OutOfMemory => Err(Stop::NoMemory),
-        Err(_) => Err(Stop::CannotRead { name }),
+    match fuse_text::next_line(input, line) {
+        Ok(is_more) => Ok(is_more || !line.is_empty()),
+        Err(LineError::NoMemory) => Err(Stop::NoMemory),
+        Err(LineError::CannotRead) => Err(Stop::CannotRead { name }),
     }
 }

@@ -2,7 +2,7 @@
 use Rattle.std.specs.Prelude.{◌≡◌, ◌⊎◌, ℕ, List, [], ◌∷◌, Option, Contains, IfSome, codes}
 use Rattle.std.specs.Io.KnownBytes.{Appends}
 use Rattle.fw_draw.specs.Svg.{svg_text}
-use Rattle.fw_script.specs.Outputs.{AppendsSome}
+use Rattle.fuse_text.specs.Outputs.{AppendsSome}
 use Rattle.fw_script.specs.Scripts.{IsGoodScript}
 use Rattle.fw_script.specs.Stops.{SaysFault}
 

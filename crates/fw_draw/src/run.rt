@@ -4,7 +4,7 @@ use crate::label::Column;
 use crate::nodes::Node;
 use crate::picture::Picture;
 use crate::row::{draw_event, draw_nodes};
-use fw_frames::read_hex;
+use fuse_text::read_hex;
 use fw_script::{Line, is_passed_over, read_line};
 use fw_world::{Call, Event, Maps, Record, Tables, WorldOf, run};
 use std::alloc::{AllocError, Allocator};

@@ -1,7 +1,7 @@
 //! The script that is drawn.
 
 ghost use Rattle.std.specs.Prelude.{◌≡◌, ◌∷◌, [], Contains, IfErr, IfOk, IfSome, OnOk, Some, codes};
-ghost use Rattle.fw_script.specs.Outputs.{AppendsSome};
+ghost use Rattle.fuse_text.specs.Outputs.{AppendsSome};
 ghost use Rattle.fw_script.specs.Scripts.{IsGoodScript};
 ghost use Rattle.fw_script.specs.Stops.{SaysFault};
 

@@ -27,14 +27,14 @@ use Rattle.fw_drive.specs.Moves.{GoOn, IsBetween, IsDue, IsNote, IsSettled, Move
 use Rattle.fw_drive.specs.Notes.{Note, notes_text}
 use Rattle.fw_drive.specs.Printed.{Gets, GetsAt, IsLineOf, IsTextOf, next_text, no_text}
 use Rattle.fw_drive.specs.Runs.{Collects, EndsAs, Goes, GoesAlone, IsOwnStop, IsUnprinted, Keeps, IsStatusOf, IsStopStatus, NothingOver, RunsScript, SaysStop, StopsAt, at, by_itself, at_end, stop_of}
-use Rattle.fw_script.specs.Scripts.{lines_of}
+use Rattle.fuse_text.specs.Lines.{lines_of}
 use Rattle.fw_drive.specs.Judging.{Say}
 use Rattle.fw_drive.specs.declared.fault.Unanswered.{Unanswered}
 use Rattle.fw_drive.specs.declared.form.Form.{Form}
 use Rattle.fw_drive.specs.declared.line.DriveLine.{DriveLine}
 use Rattle.fw_drive.specs.declared.line.DriveLine.TheVariants as line
 use Rattle.fw_drive.specs.declared.stop.Stop.{Stop}
-use Rattle.fw_script.proofs.Writes.{Appends-Keeps, Appends-append, Appends-nil}
+use Rattle.std.proofs.KnownBytes.{Appends-kept, Appends-trans, Appends-nil}
 use Rattle.fw_drive.proofs.ActsAlone.{acts_alone}
 use Rattle.fw_drive.proofs.Texts.{after_said, all_said, gets_all, gets_all_at, gets_then, moves_tell, one_wrong_then, or_false, own_result, said_collected, said_goes, said_moves, said_wrong, said_wrong_then, tells_nothing, tells_then, text_on, text_said, told_given}
 use Rattle.fw_drive.specs.PrintingLaws.{or_assoc}
@@ -214,7 +214,7 @@ module _ (A : Type 0) {D : Type 0} (logs : D → D → List Transfer → Type 0)
     on = one.on;
     text = one.text;
     lines = one.lines;
-    printed = gets_then r had mid has.0 [] one.text (Appends-Keeps had had mid [] (Appends-nil had) keeps) one.printed;
+    printed = gets_then r had mid has.0 [] one.text (Appends-kept had had mid [] (Appends-nil had) keeps) one.printed;
     told = one.told;
   }
 
@@ -235,7 +235,7 @@ module _ (A : Type 0) {D : Type 0} (logs : D → D → List Transfer → Type 0)
     on = one.on;
     text = one.text;
     lines = one.lines;
-    printed = gets_all r had.0 has one.text (Appends-Keeps had.0 mid has one.text one.printed keeps);
+    printed = gets_all r had.0 has one.text (Appends-kept had.0 mid has one.text one.printed keeps);
     told = told_given r had.1 told (is_any_move_wrong one.moves) one.told;
   }
 
@@ -403,7 +403,7 @@ module _ (A : Type 0) {D : Type 0} (logs : D → D → List Transfer → Type 0)
     on = λ is. no_move;
     text = [];
     lines = no_text;
-    printed = gets_all_at s had.0 has.0 [] (Appends-Keeps had.0 had.0 has.0 [] (Appends-nil had.0) keeps);
+    printed = gets_all_at s had.0 has.0 [] (Appends-kept had.0 had.0 has.0 [] (Appends-nil had.0) keeps);
     told = tt;
   }
 
@@ -527,7 +527,7 @@ collects_given {U} f first is_first had mid has old new x y before told one =
       on = one.on;
       text = one.text;
       lines = one.lines;
-      printed = Appends-append had.0 mid.0 has.0 first one.text before one.printed;
+      printed = Appends-trans had.0 mid.0 has.0 first one.text before one.printed;
       told = tells_then r had.1 mid.1 has.1 is_first (is_any_move_wrong one.moves) told one.told;
     }
 
@@ -630,7 +630,7 @@ one_more f had got has old mid new call answer said one collected more told = re
   lines =
       text_on f one.moves (answer_moves call answer said) one.text (answer_text call answer ++ notes_text said) one.lines
       (answer_line f call answer said);
-  printed = Appends-append had.0 got.0 has.0 one.text (answer_text call answer ++ notes_text said) one.printed more;
+  printed = Appends-trans had.0 got.0 has.0 one.text (answer_text call answer ++ notes_text said) one.printed more;
   told =
       (let r : Result (Unit {0}) Stop = Ok tt in
       moves_tell r had.1 got.1 has.1 one.moves (answer_moves call answer said) one.told

@@ -1,7 +1,6 @@
 pub mod ActsAlone
 pub mod Following
 pub mod KnownScripts
-mod LineFeeds
 pub mod LineRuns
 pub mod OneMove
 pub mod SourceRuns

@@ -4,7 +4,7 @@ use Rattle.std.specs.Prelude.{Contains, IfErr, Option, Result, Ok, Err, codes}
 use Rattle.std.specs.Io.KnownBytes.{Keeps as KeepsContents}
 use Rattle.fuse_device.specs.Transfers.{Transfer}
 use Rattle.fk_drive.specs.Driving.{Driven, DrivesOver, first_driven}
-use Rattle.fw_script.specs.Outputs.{AppendsSome}
+use Rattle.fuse_text.specs.Outputs.{AppendsSome}
 use Rattle.fw_script.specs.Records.{nodes_text}
 use Rattle.fw_world.specs.Values.{counted_nodes}
 use Rattle.fw_drive.specs.DriveLines.{IsOfCalls}

@@ -2,7 +2,7 @@
 use Rattle.std.proofs.Common.{◌≡◌, ◌⊎◌, inl, inr, Bool, true, false, ℕ, zero, suc, List, [], ◌∷◌, arith, refl, subst, sym}
 use Rattle.std.specs.Prelude.{Contains, Option, codes}
 use Rattle.fuse_spec.specs.declared.Refusal.TheVariants as refusals
-use Rattle.fw_script.specs.Outputs.{AppendsSome}
+use Rattle.fuse_text.specs.Outputs.{AppendsSome}
 use Rattle.fw_drive.specs.Findings.{end_status}
 use Rattle.fw_drive.specs.Judging.{JudgingEnds, SaysFirstFault, bad_status, bad_text}
 use Rattle.fw_drive.specs.Runs.{IsStopStatus, stop_status}

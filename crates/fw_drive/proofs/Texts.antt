@@ -5,9 +5,10 @@ use Rattle.std.specs.Io.KnownBytes.{Appends}
 use Rattle.std.proofs.lemmas.List.Elements.{All-cons, All-nil}
 use Rattle.std.specs.Fmt.{digits}
 use Rattle.fk_syscalls.specs.declared.call.Answer.{Answer}
-use Rattle.fw_script.specs.Outputs.{AppendsSome}
+use Rattle.fuse_text.specs.Outputs.{AppendsSome}
 use Rattle.fw_script.specs.Records.{answer_text, answer_words}
-use Rattle.fw_script.proofs.Writes.{Appends-append, Appends-nil, some_all, some_first, some_none}
+use Rattle.std.proofs.KnownBytes.{Appends-trans, Appends-nil}
+use Rattle.fuse_text.proofs.Writes.{some_all, some_first, some_none}
 use Rattle.fw_drive.specs.Findings.{Tells, is_any_move_wrong, is_any_wrong, is_wrong, is_wrong_move}
 use Rattle.fw_drive.specs.LineMoves.{FirstThen, IsCollected, after_note}
 use Rattle.fw_drive.specs.Moves.{GoOn, Move, end_of, notes}
@@ -246,5 +247,5 @@ five_parts a b c d e = simp append_assoc
 pub taken_then : {T E : Type 0} (r : Result T E) (old mid new : Option (List ℕ)) (first rest whole : List ℕ)
     → whole ≡ first ++ rest → Appends old mid first → OnOk r (Appends mid new rest) → OnOk r (Appends old new whole)
 taken_then (Ok x) old mid new first rest whole is before after =
-    subst (λ (l : List ℕ). Appends old new l) (sym is) (Appends-append old mid new first rest before after)
+    subst (λ (l : List ℕ). Appends old new l) (sym is) (Appends-trans old mid new first rest before after)
 taken_then (Err e) old mid new first rest whole is before after = tt

@@ -5,8 +5,9 @@ use Rattle.fw_world.specs.declared.event.Event.{Event}
 use Rattle.fw_world.specs.declared.event.Event.TheVariants as event
 use Rattle.fw_script.specs.Arguments.{IsText}
 use Rattle.fw_script.specs.Lines.{LineHasWords, WordsFaultIs}
-use Rattle.fw_script.specs.Scripts.{IsPassedOver, lines_of}
-use Rattle.fw_script.specs.Words.{words_of}
+use Rattle.fw_script.specs.Scripts.{IsPassedOver}
+use Rattle.fuse_text.specs.Lines.{lines_of}
+use Rattle.fuse_text.specs.Words.{words_of}
 use Rattle.fw_script.specs.declared.line.Line.TheVariants as lines
 use Rattle.fw_script.specs.declared.line.LineFault.{LineFault}
 use Rattle.fw_script.specs.declared.line.LineFault.TheVariants.{UnknownEvent, WrongWords}

@@ -1,13 +1,7 @@
 -- The lines of an input, as they are taken from it.
 use Rattle.std.specs.Prelude.{◌≡◌, ◌++◌, ◌∷◌, [], ℕ, Bool, true, false, List, Option, Some, None, option_map}
 use Rattle.std.proofs.Common.{refl, sym, ap, ◌∙◌, append_assoc}
-use Rattle.fw_script.specs.Scripts.{lines_of}
-
--- A line was taken from bytes, and more lines are left, or it was the last.
-abbrev pub IsTaken : (bytes : List ℕ) → (is_more : Bool) → (line : List ℕ) → (left : Option (List ℕ)) → Type 0
-IsTaken bytes true line left =
-    (rest : List ℕ) × (left ≡ Some rest) × (lines_of bytes ≡ line ∷ lines_of rest)
-IsTaken bytes false line left = lines_of bytes ≡ line ∷ []
+use Rattle.fuse_text.specs.Lines.{lines_of}
 
 -- the lines that an input has still to give, where its bytes are known: none once all of it is read
 abbrev pub lines_to_come : (is_read : Bool) → (left : Option (List ℕ)) → Option (List (List ℕ))

@@ -1,9 +1,9 @@
 -- What the lines of a script say, and why a script is not run.
 use Rattle.std.specs.Prelude.{◌⊎◌, ◌++◌, ◌∷◌, [], ℕ, List, Option, IfSome, codes}
-use Rattle.fw_script.specs.Outputs.{AppendsSome}
+use Rattle.fuse_text.specs.Outputs.{AppendsSome}
 use Rattle.fw_script.specs.Scripts.{IsPassedOver}
 use Rattle.fw_script.specs.Stops.{bad_line, unreadable}
-use Rattle.fw_script.specs.Words.{words_of}
+use Rattle.fuse_text.specs.Words.{words_of}
 use Rattle.fw_script.specs.declared.line.LineFault.{LineFault}
 use Rattle.fw_drive.specs.DriveLines.{DriveLineHasWords, FirstDriveFaultIs, IsGoodDriveScript}
 use Rattle.fw_drive.specs.declared.form.Form.{Form}

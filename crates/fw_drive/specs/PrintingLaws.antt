@@ -2,7 +2,8 @@
 use Rattle.std.proofs.Common.{◌≡◌, ◌||◌, ℕ, Bool, true, false, List, [], ◌∷◌, ◌++◌, Option, refl, sym, ap, subst, ◌∙◌, append_assoc}
 use Rattle.std.specs.Prelude.{Result, Ok, Err}
 use Rattle.std.specs.Io.KnownBytes.{Appends}
-use Rattle.fw_script.proofs.Writes.{Appends-append, Appends-nil, some_then}
+use Rattle.std.proofs.KnownBytes.{Appends-trans, Appends-nil}
+use Rattle.fuse_text.proofs.Writes.{some_then}
 use Rattle.fw_drive.specs.Findings.{Tells, Told, is_any_wrong, is_wrong}
 use Rattle.fw_drive.specs.Notes.{Note, note_text, notes_text}
 use Rattle.fw_drive.specs.Printed.{Gets, GetsAt}
@@ -14,11 +15,11 @@ pub gets_then_at : (s : Stop) (had mid has : Option (List ℕ)) (a b : List ℕ)
     → GetsAt s had has (a ++ b)
 gets_then_at stops.NoMemory had mid has a b one two = some_then had mid has a b (a ++ b) refl one two
 gets_then_at stops.OutputRefused had mid has a b one two = some_then had mid has a b (a ++ b) refl one two
-gets_then_at other had mid has a b one two = Appends-append had mid has a b one two
+gets_then_at other had mid has a b one two = Appends-trans had mid has a b one two
 
 pub gets_then : {T : Type 0} (r : Result T Stop) (had mid has : Option (List ℕ)) (a b : List ℕ) → Appends had mid a
     → Gets r mid has b → Gets r had has (a ++ b)
-gets_then (Ok x) had mid has a b one two = Appends-append had mid has a b one two
+gets_then (Ok x) had mid has a b one two = Appends-trans had mid has a b one two
 gets_then (Err s) had mid has a b one two = gets_then_at s had mid has a b one two
 
 notes_on : {A : Type 0} (a b : List (Note A)) → notes_text (a ++ b) ≡ notes_text a ++ notes_text b

@@ -8,8 +8,8 @@ use Rattle.fk_drive.specs.Driving.{Driven, Turn, first_driven, idle}
 use Rattle.fk_drive.specs.declared.end.DriveEnd.{DriveEnd}
 use Rattle.fk_drive.specs.declared.end.DriveEnd.TheVariants as drive_ends
 use Rattle.fk_drive.specs.declared.writing.Written.{Written}
-use Rattle.fw_script.specs.Outputs.{AppendsSome}
-use Rattle.fw_script.specs.Scripts.{lines_of}
+use Rattle.fuse_text.specs.Outputs.{AppendsSome}
+use Rattle.fuse_text.specs.Lines.{lines_of}
 use Rattle.fw_drive.specs.Findings.{Tells, Told, finding_status, is_any_move_wrong}
 use Rattle.fw_drive.specs.Judging.{Say}
 use Rattle.fw_drive.specs.LineMoves.{IsCollected, LinesMoveAs, all_lines}

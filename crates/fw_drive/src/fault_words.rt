@@ -2,7 +2,7 @@
 
 ghost use Rattle.std.specs.Prelude.{◌++◌, OnErr, OnOk, codes, decimal};
 ghost use Rattle.std.specs.Io.KnownBytes.{Appends};
-ghost use Rattle.fw_script.specs.Outputs.{AppendsSome};
+ghost use Rattle.fuse_text.specs.Outputs.{AppendsSome};
 ghost use Rattle.fw_script.specs.Records.{kind_word};
 ghost use Rattle.fw_drive.specs.Faults.{fault_words, file_words, files_words, generations_words, head_words, node_words};
 ghost use Rattle.fw_drive.specs.Faults.{request_words, right_words, size_words};

@@ -1,12 +1,12 @@
 //! An input as a source of lines.
 
-ghost use Rattle.std.specs.Prelude.{◌≡◌, ◌≢◌, ◌++◌, ◌∷◌, [], ℕ, false, List, IfOk, IfSome, MatchBool};
-ghost use Rattle.fw_drive.specs.Inputs.{IsTaken};
+ghost use Rattle.std.specs.Prelude.{◌≡◌, false};
 
 use crate::source::{LineSource, NoLine, Standing};
 use crate::view::KernelView;
+use fuse_text::LineError;
 use std::alloc::Allocator;
-use std::io::{BufRead, ErrorKind, Write};
+use std::io::{BufRead, Write};
 
 /// The lines of an input, read as they are asked for: what stands before, between and after its line feeds.
 #[derive(Drop)]
@@ -25,35 +25,6 @@ impl<R: BufRead + Drop> InputLines<R> {
             reader,
             is_read: false,
         }
-    }
-}
-
-/// Takes the line feed from the end of a line, if it has one.
-fn take_feed<A: Allocator>(line: &mut Vec<u8, A>) -> bool
-    ensures { MatchBool result (line.old.items ≡ line.new.items ++ 10 ∷ [])
-        ((line.new.items ≡ line.old.items) × ((front : List ℕ) → line.old.items ≢ front ++ 10 ∷ [])) }
-{
-    if !matches!(line.as_slice(), [.., b'\n']) {
-        return false;
-    }
-    let _feed = line.pop();
-    true
-}
-
-/// Reads the next line in place of the one before, without its line feed. Says whether a line feed ended it: after it
-/// there is another line, though it may be empty.
-fn read_line<A: Allocator, R: BufRead>(
-    reader: &mut R,
-    line: &mut Vec<u8, A>,
-) -> Result<bool, NoLine>
-    ensures { IfOk result (λ is_more. IfSome (R.remaining reader.old)
-        (λ bytes. IsTaken bytes is_more line.new.items (R.remaining reader.new))) }
-{
-    line.clear();
-    match reader.read_until(b'\n', line) {
-        Ok(_) => Ok(take_feed(line)),
-        Err(error) if error.kind() == ErrorKind::OutOfMemory => Err(NoLine::NoMemory),
-        Err(_) => Err(NoLine::CannotRead),
     }
 }
 
@@ -77,12 +48,13 @@ impl<R: BufRead + Drop, O: Write> LineSource<O> for InputLines<R> {
         if self.is_read {
             return Ok(false);
         }
-        match read_line(&mut self.reader, line) {
+        match fuse_text::next_line(&mut self.reader, line) {
             Ok(is_more) => {
                 self.is_read = !is_more;
                 Ok(true)
             }
-            Err(why) => Err(why),
+            Err(LineError::NoMemory) => Err(NoLine::NoMemory),
+            Err(LineError::CannotRead) => Err(NoLine::CannotRead),
         }
     }
 

@@ -4,7 +4,7 @@ ghost use Rattle.std.specs.Prelude.{◌≡◌, ◌≢◌, ◌<◌, ◌⊎◌, �
 ghost use Rattle.std.specs.Prelude.{IsTrue, MatchOption, MatchResult, codes, length};
 ghost use Rattle.fw_script.specs.Arguments.{IsText};
 ghost use Rattle.fw_script.specs.Scripts.{IsPassedOver};
-ghost use Rattle.fw_script.specs.Words.{words_of};
+ghost use Rattle.fuse_text.specs.Words.{words_of};
 ghost use Rattle.fw_drive.specs.DriveLines.{DriveFaultIs, DriveLineFaultIs, DriveLineHasWords, IsFlagsWord, IsForeign};
 ghost use Rattle.fw_drive.specs.DriveLines.{IsGoodDriveLine, IsOfCalls, IsOfFrames, IsOfServer, OpensWith};
 

@@ -1,8 +1,8 @@
 //! The lines of a script, which are judged before the first is run.
 
 ghost use Rattle.std.specs.Prelude.{◌≡◌, IfErr, IfOk, MatchOption};
-ghost use Rattle.fw_script.specs.Outputs.{AppendsSome};
-ghost use Rattle.fw_script.specs.Scripts.{lines_of};
+ghost use Rattle.fuse_text.specs.Outputs.{AppendsSome};
+ghost use Rattle.fuse_text.specs.Lines.{lines_of};
 ghost use Rattle.fw_drive.specs.DriveLines.{FirstDriveFaultIs, IsGoodDriveScript};
 ghost use Rattle.fw_drive.specs.Judging.{JudgingEnds, Say, bad_status, bad_text};
 

@@ -1,7 +1,7 @@
 //! The words of a line.
 
 ghost use Rattle.std.specs.Prelude.{◌≡◌, ◌≢◌, ◌∷◌, [], List, ℕ, MatchOption, option_copied};
-ghost use Rattle.fw_script.specs.Words.{words_left, words_of};
+ghost use Rattle.fuse_text.specs.Words.{words_left, words_of};
 
 use fw_script::split_word;
 

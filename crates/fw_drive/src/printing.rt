@@ -4,7 +4,7 @@ ghost use Rattle.std.specs.Prelude.{◌≡◌, ◌++◌, OnErr, OnOk, codes, dec
 ghost use Rattle.std.specs.Io.KnownBytes.{Appends};
 ghost use Rattle.fuse_frames.specs.RequestTies.{asked_opcode};
 ghost use Rattle.fk_syscalls.specs.declared.call.Answer.{Answer as AnswerValue};
-ghost use Rattle.fw_script.specs.Outputs.{AppendsSome};
+ghost use Rattle.fuse_text.specs.Outputs.{AppendsSome};
 ghost use Rattle.fw_script.specs.Records.{outcome_line, record_text};
 ghost use Rattle.fw_world.specs.declared.event.Outcome.TheVariants as outcomes;
 ghost use Rattle.fw_drive.specs.Notes.{compared, note_text, notification, raised};

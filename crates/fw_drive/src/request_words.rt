@@ -2,7 +2,7 @@
 
 ghost use Rattle.std.specs.Prelude.{◌≡◌, ◌++◌, OnErr, OnOk, codes, decimal};
 ghost use Rattle.std.specs.Io.KnownBytes.{Appends};
-ghost use Rattle.fw_script.specs.Outputs.{AppendsSome};
+ghost use Rattle.fuse_text.specs.Outputs.{AppendsSome};
 ghost use Rattle.fw_drive.specs.Faults.{asks_word, more_words, request_words, serves_words, unanswered_words};
 
 use crate::fault::{Asks, CallName, RequestName, Unanswered};

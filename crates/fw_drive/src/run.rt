@@ -3,7 +3,7 @@
 ghost use Rattle.std.specs.Prelude.{◌≡◌, ◌⊎◌, ◌++◌, ◌∷◌, [], ℕ, Contains, IfErr, IfOk, IfSome, OnErr, OnOk, codes, false};
 ghost use Rattle.driven_sessions.specs.Rules.{KeepsRules};
 ghost use Rattle.fk_drive.specs.Driving.{Driven, DrivesOver, first_driven};
-ghost use Rattle.fw_script.specs.Outputs.{AppendsSome};
+ghost use Rattle.fuse_text.specs.Outputs.{AppendsSome};
 ghost use Rattle.fw_script.specs.Stops.{unreadable};
 ghost use Rattle.fw_drive.specs.DriveLines.{IsGoodDriveScript};
 ghost use Rattle.fw_drive.specs.Judging.{IsUnrun, SaysFirstFault};

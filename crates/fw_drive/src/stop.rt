@@ -2,7 +2,7 @@
 
 ghost use Rattle.std.specs.Prelude.{◌≡◌, ◌⊎◌, Err, IfErr, OnErr, OnOk, codes};
 ghost use Rattle.std.specs.Io.KnownBytes.{Appends, Keeps as KeepsContents};
-ghost use Rattle.fw_script.specs.Outputs.{AppendsSome};
+ghost use Rattle.fuse_text.specs.Outputs.{AppendsSome};
 ghost use Rattle.fw_drive.specs.Findings.{end_status};
 ghost use Rattle.fw_drive.specs.Printed.{stop_line};
 ghost use Rattle.fw_drive.specs.Runs.{IsStopStatus, IsUnprinted, SaysStop, stop_of, stop_status};

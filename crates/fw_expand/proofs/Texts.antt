@@ -4,8 +4,8 @@ use Rattle.std.specs.List.{join_with_byte}
 use Rattle.std.specs.Prelude.{codes}
 use Rattle.std.proofs.lemmas.List.{length-map}
 use Rattle.std.proofs.lemmas.List.Splits.{join_with_byte-slice_split, length-slice_split}
-use Rattle.fw_script.specs.Scripts.{lines_of}
-use Rattle.fw_script.specs.Words.{words_of}
+use Rattle.fuse_text.specs.Lines.{lines_of}
+use Rattle.fuse_text.specs.Words.{words_of}
 use Rattle.fw_call_names.proofs.Joining.{AreWithout, IsWithout, is_byte, parts_without, split_joined}
 use Rattle.fw_expand.specs.Expanding.{kind_of, list_line}
 use Rattle.fw_expand.specs.Scripts.{expandable_script, judged_as, judged_line}

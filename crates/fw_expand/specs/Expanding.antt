@@ -1,7 +1,7 @@
 -- Lines of a script that stand for several, and the lines that they give.
 use Rattle.std.specs.Prelude.{◌≡◌, ◌≢◌, ◌+◌, ◌-◌, ◌++◌, ◌∷◌, ◌==◌, ◌&&◌, ◌||◌, [], ℕ, Bool, true, false, List, Option, Some, None, bytes_eq, codes, decimal, get_or, length, nat_le, nat_lt, take, if◌then◌else◌}
 use Rattle.std.specs.List.{list_all}
-use Rattle.fw_script.specs.Words.{words_of}
+use Rattle.fuse_text.specs.Words.{words_of}
 use Rattle.fw_drive.specs.declared.form.Form.{Form}
 use Rattle.fw_drive.specs.declared.form.Form.TheVariants as form
 use Rattle.fw_expand.specs.Walks.{Leads, Place, names_in, walked}

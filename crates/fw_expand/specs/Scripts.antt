@@ -1,7 +1,7 @@
 -- A script of lines that stand for one, by which a script of lines that stand for several is judged.
 use Rattle.std.specs.Prelude.{◌++◌, ℕ, Bool, List, codes, map}
-use Rattle.fw_script.specs.Scripts.{lines_of}
-use Rattle.fw_script.specs.Words.{words_of}
+use Rattle.fuse_text.specs.Lines.{lines_of}
+use Rattle.fuse_text.specs.Words.{words_of}
 use Rattle.fw_expand.specs.Expanding.{kind_of, list_line}
 use Rattle.fw_expand.specs.declared.kind.Kind.{Kind}
 use Rattle.fw_expand.specs.declared.kind.Kind.TheVariants as kind

@@ -1,7 +1,7 @@
 //! What a line gives, from its first line on.
 
 ghost use Rattle.std.specs.Prelude.{◌≡◌, IfOk, map};
-ghost use Rattle.fw_script.specs.Words.{words_of};
+ghost use Rattle.fuse_text.specs.Words.{words_of};
 ghost use Rattle.fw_expand.specs.Expanding.{begun, evicted, word_at};
 ghost use Rattle.fw_expand.specs.Walks.{names_in, walked};
 

@@ -2,7 +2,7 @@
 
 ghost use Rattle.std.specs.Prelude.{◌≡◌, ◌≢◌, ◌++◌, ◌∷◌, [], IfOk, MatchOption, OnOk, flat_map};
 ghost use Rattle.std.specs.List.{join_with_byte};
-ghost use Rattle.fw_script.specs.Scripts.{lines_of};
+ghost use Rattle.fuse_text.specs.Lines.{lines_of};
 ghost use Rattle.fw_expand.specs.Expanding.{is_of_calls as of_calls};
 ghost use Rattle.fw_expand.specs.Scripts.{judged_line};
 ghost use Rattle.fw_expand.specs.Scripts as scripts;

@@ -1,4 +1,1 @@
-pub mod Digits
-pub mod Hexes
 pub mod Statuses
-pub mod Writes

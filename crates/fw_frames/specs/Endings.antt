@@ -3,7 +3,7 @@ use Rattle.std.specs.Prelude.{◌≡◌, ◌≢◌, ◌⊎◌, ℕ, Bool, List, 
 use Rattle.fk_wire.specs.Opcodes.{name_of}
 use Rattle.fk_wire.specs.declared.opcode.Opcode.{Opcode}
 use Rattle.fw_frames.specs.Frames.{PrintsFrame, PrintsReply}
-use Rattle.fw_frames.specs.HexTexts.{SpellsHex}
+use Rattle.fuse_text.specs.HexTexts.{SpellsHex}
 use Rattle.hex.specs.Hex.{IsBytes}
 
 -- What becomes of an output, of which `out` says what it holds, at the hex of a request: 0 where it is printed, 1 where

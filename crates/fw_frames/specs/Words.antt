@@ -10,11 +10,8 @@ use Rattle.fk_wire.specs.Replies.{write_reply, init_reply, create_reply, records
 use Rattle.fk_wire.specs.Requests.{RequestContent, lookup, forget, getattr, mkdir, unlink, rmdir, rename, link}
 use Rattle.fk_wire.specs.Requests.{opening, read, write, release, init, readdir, readdirplus, create, interrupt}
 use Rattle.fk_wire.specs.Requests.{batch_forget}
-use Rattle.fw_frames.specs.HexTexts.{hex_or_none}
-
--- `?` stands for a byte of a name that is outside 33 to 126
-abbrev pub printed_byte : ℕ → ℕ
-printed_byte byte = if nat_le 33 byte && nat_le byte 126 then byte else 63
+use Rattle.fuse_text.specs.HexTexts.{hex_or_none}
+use Rattle.fuse_text.specs.Printed.{printed_byte}
 
 -- a flag's name, where a number has its bit
 unfoldable pub flag_word : (flags bit : ℕ) → List ℕ → List ℕ

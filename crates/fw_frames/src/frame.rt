@@ -6,15 +6,15 @@ ghost use Rattle.std.specs.Io.KnownBytes.{Appends};
 ghost use Rattle.fk_wire.specs.Requests.{request_content, request_message};
 ghost use Rattle.fw_frames.specs.Endings.{EndsFrame};
 ghost use Rattle.fw_frames.specs.Frames.{PrintsFrame, fault_text, request_head, request_text};
-ghost use Rattle.fw_frames.specs.HexTexts.{SpellsHex};
+ghost use Rattle.fuse_text.specs.HexTexts.{SpellsHex};
 ghost use Rattle.fw_frames.specs.Stops.{frame_status_of};
 ghost use Rattle.fw_frames.specs.Words.{request_words};
 ghost use Rattle.hex.specs.Hex.{IsBytes};
 
-use crate::hex_text::{HexFault, read_hex};
 use crate::request_words::write_request_words;
 use crate::stop::Stop;
 use fk_wire::{Request, RequestBody, WireFault, read_request};
+use fuse_text::{HexFault, read_hex};
 use std::alloc::Allocator;
 use std::io;
 use std::io::Write;

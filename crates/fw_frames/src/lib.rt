@@ -4,8 +4,6 @@
 mod entry_words;
 mod flag_words;
 mod frame;
-mod hex_text;
-mod name_words;
 mod opcode_name;
 mod reply;
 mod reply_words;
@@ -13,7 +11,6 @@ mod request_words;
 mod stop;
 
 pub use frame::run_frame;
-pub use hex_text::{HexFault, is_hex, read_hex, write_hex};
 pub use opcode_name::opcode_of_name;
 pub use reply::run_reply;
 pub use reply_words::write_reply_words;

@@ -7,16 +7,16 @@ ghost use Rattle.fk_wire.specs.Replies.{reply_content, reply_message};
 ghost use Rattle.fk_wire.specs.declared.opcode.Opcode.{Opcode};
 ghost use Rattle.fw_frames.specs.Endings.{EndsReply};
 ghost use Rattle.fw_frames.specs.Frames.{PrintsReply, reply_head, reply_text};
-ghost use Rattle.fw_frames.specs.HexTexts.{SpellsHex};
+ghost use Rattle.fuse_text.specs.HexTexts.{SpellsHex};
 ghost use Rattle.fw_frames.specs.Stops.{frame_status_of};
 ghost use Rattle.hex.specs.Hex.{IsBytes};
 
 use crate::frame::write_fault;
-use crate::hex_text::{HexFault, read_hex};
 use crate::opcode_name::opcode_of_name;
 use crate::reply_words::write_reply_words;
 use crate::stop::Stop;
 use fk_wire::{Opcode, Reply, read_reply};
+use fuse_text::{HexFault, read_hex};
 use std::alloc::Allocator;
 use std::io;
 use std::io::Write;

@@ -8,9 +8,8 @@ ghost use Rattle.fw_frames.specs.Words.{dirent_words, direntplus_words, open_wor
 
 use crate::entry_words::{write_attr, write_entry};
 use crate::flag_words::write_flags;
-use crate::hex_text::write_hex_or_none;
-use crate::name_words::write_name;
 use fk_wire::{Dirent, DirentPlus, Records, RecordsPlus, ReplyBody};
+use fuse_text::{print_hex_or_none, print_name};
 use std::io;
 use std::io::Write;
 
@@ -33,7 +32,7 @@ fn write_dirent<W: Write>(out: &mut W, dirent: &Dirent<'_>) -> io::Result<()>
     let off = dirent.off;
     let kind = word_of_type(dirent.kind);
     out.write_all(b" ")?;
-    write_name(out, dirent.name)?;
+    print_name(out, dirent.name)?;
     write!(out, ":{off}:{kind}")
 }
 
@@ -93,7 +92,7 @@ pub fn write_reply_words<W: Write>(out: &mut W, body: &ReplyBody<'_>) -> io::Res
         ReplyBody::Open { fh } => write_open(out, *fh),
         ReplyBody::Bytes { bytes } => {
             out.write_all(b" data ")?;
-            write_hex_or_none(out, bytes)
+            print_hex_or_none(out, bytes)
         }
         ReplyBody::Write { size } => write!(out, " size {size}"),
         ReplyBody::Init {

@@ -4,12 +4,12 @@ ghost use Rattle.std.specs.Prelude.{◌≡◌, ◌++◌, OnOk, codes, decimal, m
 ghost use Rattle.std.specs.Io.KnownBytes.{Appends};
 ghost use Rattle.fk_wire.specs.Requests.{request_content};
 ghost use Rattle.fk_wire.specs.Pairs.{pairs_in};
-ghost use Rattle.fw_frames.specs.Words.{pair_words, range_words, request_words, printed_byte};
+ghost use Rattle.fuse_text.specs.Printed.{printed_byte};
+ghost use Rattle.fw_frames.specs.Words.{pair_words, range_words, request_words};
 
 use crate::flag_words::write_flags;
-use crate::hex_text::write_hex_or_none;
-use crate::name_words::write_name;
 use fk_wire::{Pairs, RequestBody};
+use fuse_text::{print_hex_or_none, print_name};
 use std::io;
 use std::io::Write;
 
@@ -18,7 +18,7 @@ fn write_one_name<W: Write>(out: &mut W, name: &[u8]) -> io::Result<()>
     ensures { OnOk result (Appends (W.contents out.old) (W.contents out.new) (codes " name " ++ map printed_byte name.now)) }
 {
     out.write_all(b" name ")?;
-    write_name(out, name)
+    print_name(out, name)
 }
 
 /// Writes ` newdir NODE old NAME new NAME`.
@@ -27,9 +27,9 @@ fn write_rename<W: Write>(out: &mut W, newdir: u64, old: &[u8], new: &[u8]) -> i
         ++ codes " old " ++ map printed_byte old.now ++ codes " new " ++ map printed_byte new.now)) }
 {
     write!(out, " newdir {newdir} old ")?;
-    write_name(out, old)?;
+    print_name(out, old)?;
     out.write_all(b" new ")?;
-    write_name(out, new)
+    print_name(out, new)
 }
 
 /// Writes ` oldnodeid NODE name NAME`.
@@ -38,7 +38,7 @@ fn write_link<W: Write>(out: &mut W, oldnodeid: u64, name: &[u8]) -> io::Result<
         ++ codes " name " ++ map printed_byte name.now)) }
 {
     write!(out, " oldnodeid {oldnodeid} name ")?;
-    write_name(out, name)
+    print_name(out, name)
 }
 
 /// Writes ` offset OFFSET size SIZE`.
@@ -56,7 +56,7 @@ fn write_write<W: Write>(out: &mut W, fh: u64, offset: u64, bytes: &[u8]) -> io:
     write!(out, " fh {fh}")?;
     write_range(out, offset, bytes.len() as u64)?;
     out.write_all(b" data ")?;
-    write_hex_or_none(out, bytes)
+    print_hex_or_none(out, bytes)
 }
 
 /// Writes ` NODE:NLOOKUP`.

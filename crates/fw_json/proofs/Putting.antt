@@ -4,7 +4,7 @@ use Rattle.std.specs.Prelude.{IfOk, option_map}
 use Rattle.std.specs.Fmt.{option_append}
 use Rattle.std.proofs.lemmas.List.{drop_all}
 use Rattle.std.proofs.lemmas.List.Splits.{length-slice_split}
-use Rattle.fw_script.specs.Words.{words_left}
+use Rattle.fuse_text.specs.Words.{words_left}
 use Rattle.fw_json.specs.Fields.{fields, last_fields}
 use Rattle.fw_json.specs.Putting.{PutsIf}
 use Rattle.fw_json.specs.declared.key.Key.{Key}

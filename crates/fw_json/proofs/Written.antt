@@ -3,8 +3,8 @@ use Rattle.std.proofs.Common.{◌≡◌, ◌++◌, ◌==◌, ◌∙◌, ℕ, Boo
 use Rattle.std.specs.Io.KnownBytes.{Appends}
 use Rattle.std.specs.List.{slice_split}
 use Rattle.std.proofs.lemmas.List.{take_all}
-use Rattle.fw_script.specs.Scripts.{lines_of}
-use Rattle.fw_script.proofs.Writes.{Appends-append, Appends-nil}
+use Rattle.fuse_text.specs.Lines.{lines_of}
+use Rattle.std.proofs.KnownBytes.{Appends-trans, Appends-nil}
 use Rattle.fw_json.specs.Objects.{json_line}
 use Rattle.fw_json.specs.Texts.{HasWritten, all_but_last, is_none, json_lines, json_text, last_of, open_line, whole_lines}
 use Rattle.fw_json.proofs.Feeds.{glue, longer_last, none_open, not_none, one_more_object, one_more_whole, same_whole, split_glued}
@@ -53,7 +53,7 @@ one_more_written start now new text bytes more kept left is_first is_next has sp
     ∙ ap (json_lines true) (sym whole) in
     record {
       objects = subst (λ (l : List ℕ). Appends start new l) all
-          (Appends-append start now new (json_text text) (json_line is_first (kept ++ more)) has.objects appends);
+          (Appends-trans start now new (json_text text) (json_line is_first (kept ++ more)) has.objects appends);
       rest = none ∙ sym (ap last_of lines ∙ none_open (lines_of text) more);
       first = later ∙ sym (ap is_none whole ∙ not_none (whole_lines text) (open_line text ++ more));
     }

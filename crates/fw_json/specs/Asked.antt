@@ -1,6 +1,6 @@
 -- The request that a line names, and the call that it serves.
 use Rattle.std.specs.Prelude.{ℕ, Bool, true, false, List, [], ◌∷◌, ◌++◌, ◌&&◌, Option, Some, None, bytes_eq, codes, nat_le, option_map, if◌then◌else◌}
-use Rattle.fw_script.specs.Words.{parts_left, words_of}
+use Rattle.fuse_text.specs.Words.{parts_left, words_of}
 use Rattle.fw_json.specs.Fields.{is_number, key_text, string_field}
 use Rattle.fw_json.specs.declared.key.Key.TheVariants as key
 

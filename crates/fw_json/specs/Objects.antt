@@ -1,7 +1,7 @@
 -- The object of a line.
 use Rattle.std.specs.Prelude.{ℕ, Bool, List, [], ◌∷◌, ◌++◌, ◌||◌, ◌&&◌, Option, Some, None, bytes_eq, codes, drop, nat_eq, option_map, unwrap_or, if◌then◌else◌}
 use Rattle.std.specs.List.{starts_with}
-use Rattle.fw_script.specs.Words.{parts_left, words_of}
+use Rattle.fuse_text.specs.Words.{parts_left, words_of}
 use Rattle.fw_json.specs.Asked.{asked_fields, asked_of}
 use Rattle.fw_json.specs.Events.{event_of, keys_of, list_key_of}
 use Rattle.fw_json.specs.Fields.{fields, is_number, key_text, string_field}

@@ -1,7 +1,7 @@
 -- The objects of a text, line by line.
 use Rattle.std.specs.Prelude.{◌≡◌, ℕ, Bool, true, false, List, [], ◌∷◌, ◌++◌, Option}
 use Rattle.std.specs.Io.KnownBytes.{Appends}
-use Rattle.fw_script.specs.Scripts.{lines_of}
+use Rattle.fuse_text.specs.Lines.{lines_of}
 use Rattle.fw_json.specs.Objects.{json_line}
 
 abbrev pub all_but_last : List (List ℕ) → List (List ℕ)

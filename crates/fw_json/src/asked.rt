@@ -2,7 +2,7 @@
 
 ghost use Rattle.std.specs.Prelude.{◌≡◌, MatchOption, None, Some, option_copied};
 ghost use Rattle.fw_json.specs.Asked as table;
-ghost use Rattle.fw_script.specs.Words.{parts_left, words_left, words_of};
+ghost use Rattle.fuse_text.specs.Words.{parts_left, words_left, words_of};
 
 use crate::field::is_number;
 use fw_script::split_at;

@@ -4,7 +4,7 @@ ghost use Rattle.std.specs.Prelude.{◌≡◌, ◌++◌, ◌<◌, ◌==◌, ◌|
 ghost use Rattle.std.specs.List.{list_all};
 ghost use Rattle.fw_json.specs.Fields as table;
 ghost use Rattle.fw_json.specs.Putting.{PutsIf};
-ghost use Rattle.fw_script.specs.Words.{words_left, words_of};
+ghost use Rattle.fuse_text.specs.Words.{words_left, words_of};
 
 use crate::key::Key;
 use crate::string::put_string;

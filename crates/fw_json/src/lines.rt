@@ -3,7 +3,7 @@
 ghost use Rattle.std.specs.Prelude.{◌≡◌, ◌<◌, ◌++◌, ◌==◌, [], ℕ, IfOk, List, OnErr, OnOk, Option, false, is_err, length, position, take, true};
 ghost use Rattle.std.specs.Io.KnownBytes.{Appends, Keeps};
 ghost use Rattle.std.specs.Io.{WritesAtMost};
-ghost use Rattle.fw_script.specs.Outputs.{AppendsSome};
+ghost use Rattle.fuse_text.specs.Outputs.{AppendsSome};
 ghost use Rattle.fw_json.specs.Objects.{json_line};
 ghost use Rattle.fw_json.specs.Texts.{HasWritten, first_line};
 

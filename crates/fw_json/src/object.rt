@@ -1,7 +1,7 @@
 //! The object of a line.
 
 ghost use Rattle.std.specs.Prelude.{◌≡◌, ◌++◌, ◌∷◌, OnOk, IfOk, codes, option_copied};
-ghost use Rattle.fw_script.specs.Words.{words_left, words_of};
+ghost use Rattle.fuse_text.specs.Words.{words_left, words_of};
 ghost use Rattle.fw_json.specs.Asked as asked_table;
 ghost use Rattle.fw_json.specs.Fields.{key_text, string_field};
 ghost use Rattle.fw_json.specs.Objects as table;

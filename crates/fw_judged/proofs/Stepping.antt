@@ -8,7 +8,7 @@ use Rattle.fuse_sessions.specs.declared.fault.Fault.{Fault}
 use Rattle.fuse_sessions.specs.declared.fault.Party.{Party}
 use Rattle.fuse_sessions.specs.declared.transfer.Transfer.{Transfer as Said}
 use Rattle.fw_check.specs.Counting.{faults_in}
-use Rattle.fw_check.specs.Outputs.{AppendsSome}
+use Rattle.fuse_text.specs.Outputs.{AppendsSome}
 use Rattle.fw_check.specs.Tallies.{is_of, one_if}
 use Rattle.fw_judged.specs.declared.form.Form.{Form}
 use Rattle.fw_judged.specs.declared.stage.Stage.{Stage}

@@ -17,7 +17,7 @@ use Rattle.fuse_judge.specs.Transfers.{AreFaults, HasSeenTransfers, SessionState
 use Rattle.fuse_device.specs.Transfers.{Transfer}
 use Rattle.fw_check.specs.Counting.{faults_in}
 use Rattle.fw_check.specs.FrameLines.{frame_lines}
-use Rattle.fw_check.specs.Outputs.{AppendsSome}
+use Rattle.fuse_text.specs.Outputs.{AppendsSome}
 use Rattle.fw_judged.specs.declared.counts.FaultCounts.{FaultCounts}
 use Rattle.fw_judged.specs.declared.form.Form.{Form}
 use Rattle.fw_judged.specs.declared.form.Form.TheVariants as form

@@ -5,8 +5,8 @@ use Rattle.std.proofs.Common.{zero, suc, refl, sym, ap, subst, ◌∙◌, append
 use Rattle.std.proofs.KnownBytes.{Appends-nil, Appends-trans}
 use Rattle.fuse_sessions.specs.declared.transfer.Transfer.{Transfer as Said}
 use Rattle.fuse_device.specs.Transfers.{Transfer}
-use Rattle.fw_check.specs.Outputs.{AppendsSome}
-use Rattle.fw_check.proofs.Writes.{some_first, some_none, some_then}
+use Rattle.fuse_text.specs.Outputs.{AppendsSome}
+use Rattle.fuse_text.proofs.Writes.{some_first, some_none, some_then}
 use Rattle.fw_judged.specs.declared.form.Form.{Form}
 use Rattle.fw_judged.specs.declared.stage.Stage.{Stage}
 use Rattle.fw_judged.specs.declared.stage.Stage.TheVariants as stage

@@ -2,9 +2,9 @@
 use Rattle.std.proofs.Common.{◌≡◌, ◌⊎◌, ◌+◌, ◌++◌, ◌∷◌, [], ℕ, List, Option, Result, Ok, Err, IfErr, OnOk, inl, inr, length, refl, ap, sym, subst, ◌∙◌, arith, append-nil, codes}
 use Rattle.std.specs.Prelude.{decimal}
 use Rattle.std.specs.Io.KnownBytes.{Appends}
-use Rattle.fw_script.specs.Outputs.{AppendsSome}
-use Rattle.fw_script.specs.Scripts.{lines_of}
-use Rattle.fw_script.proofs.Writes.{Appends-append}
+use Rattle.fuse_text.specs.Outputs.{AppendsSome}
+use Rattle.fuse_text.specs.Lines.{lines_of}
+use Rattle.std.proofs.KnownBytes.{Appends-trans}
 use Rattle.order_law.specs.Moments.{Moment, Part}
 use Rattle.order_search.specs.Orders.{Explored, wanted_of}
 use Rattle.order_search.specs.declared.choice.Choice.{Choice}
@@ -66,7 +66,7 @@ printed_all printed parts wanted.All count p q old mid new found gets finish = (
   found.orders,
   found.all,
   subst (Appends old new) (append-nil (orders_text (wanted_of wanted.All 0 found.orders)))
-      (Appends-append old mid new (orders_text (wanted_of wanted.All 0 found.orders)) []
+      (Appends-trans old mid new (orders_text (wanted_of wanted.All 0 found.orders)) []
       (gets (wanted_of wanted.All 0 found.orders) found.printed.printed) finish),
 )
 printed_all printed parts wanted.Number count p q old mid new found gets finish =
@@ -76,7 +76,7 @@ printed_all printed parts wanted.Number count p q old mid new found gets finish 
       found.orders,
       found.all,
       subst (λ (n : ℕ). Appends old new (decimal n ++ codes "\n")) counted
-          (Appends-append old mid new [] (decimal count ++ codes "\n") none finish),
+          (Appends-trans old mid new [] (decimal count ++ codes "\n") none finish),
     )
 printed_all printed parts (wanted.Nth number) count p q old mid new found gets finish = tt
 

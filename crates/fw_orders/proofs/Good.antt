@@ -1,6 +1,7 @@
 -- Good lines, one more at a time, and the first that is bad.
 use Rattle.std.proofs.Common.{◌≡◌, ◌<◌, ◌≤◌, ◌+◌, ◌++◌, ◌∷◌, [], ℕ, List, length, refl, sym, ◌∙◌, arith, length-append}
-use Rattle.fw_script.specs.Scripts.{IsPassedOver, lines_of}
+use Rattle.fw_script.specs.Scripts.{IsPassedOver}
+use Rattle.fuse_text.specs.Lines.{lines_of}
 use Rattle.order_law.specs.Moments.{Part}
 use Rattle.fw_orders.specs.FileLines.{FileLine, FirstBadLine, HaveParts, IsBad, faulty, left_out, passed_over, says}
 use Rattle.fw_orders.specs.Reading.{Added, AddsNot, IsNotAdded, ReadingEnds, its_own, not_joined, stopped_at}

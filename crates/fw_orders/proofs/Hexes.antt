@@ -1,6 +1,6 @@
 -- The bytes that hex spells.
 use Rattle.std.proofs.Common.{◌≡◌, ℕ, List, [], ◌∷◌, refl, ap, sym, ◌∙◌}
-use Rattle.fw_frames.specs.HexTexts.{hex_or_none}
+use Rattle.fuse_text.specs.HexTexts.{hex_or_none}
 use Rattle.hex.specs.Hex.{IsBytes}
 use Rattle.hex.proofs.HexLemmas.{decode_of-encode_lower}
 use Rattle.fw_orders.specs.Saying.{bytes_or_none, hex_bytes}

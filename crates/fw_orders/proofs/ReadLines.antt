@@ -2,7 +2,7 @@
 use Rattle.std.proofs.Common.{◌≡◌, ◌≢◌, ◌⊎◌, ◌↔◌, ℕ, Bool, true, false, List, Option, Some, None, Result, Ok, Err, OnOk, ◌<◌, ◌++◌, ◌∷◌, [], length, inl, inr, option_map, arith, length-append, refl, ap, sym, subst, ◌∙◌}
 use Rattle.std.specs.Prelude.{IsTrue, codes}
 use Rattle.fw_script.specs.Lines.{LineHasWords, WordsFaultIs}
-use Rattle.fw_script.specs.Words.{words_of}
+use Rattle.fuse_text.specs.Words.{words_of}
 use Rattle.fw_script.specs.declared.line.Line.{Line}
 use Rattle.fw_script.specs.declared.line.Line.TheVariants as lines
 use Rattle.fw_script.specs.declared.line.LineFault.{LineFault}

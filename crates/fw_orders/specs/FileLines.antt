@@ -4,7 +4,7 @@ use Rattle.fuse_spec.specs.Calls.Calls.{write}
 use Rattle.fuse_spec.specs.World.Events.{call as calling}
 use Rattle.fw_script.specs.Lines.{LineHasWords, WordsFaultIs}
 use Rattle.fw_script.specs.Scripts.{IsPassedOver}
-use Rattle.fw_script.specs.Words.{words_of}
+use Rattle.fuse_text.specs.Words.{words_of}
 use Rattle.fw_script.specs.declared.line.Line.{Line}
 use Rattle.fw_script.specs.declared.line.Line.TheVariants as lines
 use Rattle.fw_script.specs.declared.line.LineFault.{LineFault}

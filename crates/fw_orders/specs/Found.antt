@@ -5,8 +5,8 @@ use Rattle.order_law.specs.Moments.{Part}
 use Rattle.order_search.specs.Orders.{AreOrders, wanted_of}
 use Rattle.order_search.specs.declared.course.Wanted.{Wanted}
 use Rattle.order_search.specs.declared.course.Wanted.TheVariants as wanted
-use Rattle.fw_script.specs.Outputs.{AppendsSome}
-use Rattle.fw_script.specs.Scripts.{lines_of}
+use Rattle.fuse_text.specs.Outputs.{AppendsSome}
+use Rattle.fuse_text.specs.Lines.{lines_of}
 use Rattle.fw_script.specs.Stops.{unreadable}
 use Rattle.fw_orders.specs.FileLines.{FirstBadLine, HaveParts}
 use Rattle.fw_orders.specs.Following.{LeadsIn}

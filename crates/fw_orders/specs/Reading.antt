@@ -1,7 +1,7 @@
 -- How lines that are read come to parts.
 use Rattle.std.specs.Prelude.{◌≡◌, ◌≢◌, ◌<◌, ◌≤◌, ◌++◌, ◌∷◌, [], ℕ, List, Option, Some, None, length}
 use Rattle.order_law.specs.Moments.{Act as ActValue, Part as PartValue, group}
-use Rattle.fw_script.specs.Scripts.{lines_of}
+use Rattle.fuse_text.specs.Lines.{lines_of}
 use Rattle.fw_orders.specs.FileLines.{EndInGroup, FileLine as FileLineValue, FirstBadLine, IsLeftOut, LineSays, LineSaysNot, Make, Together as TogetherValue, alone, call, step, together}
 use Rattle.fw_orders.specs.Saying.{act_of}
 use Rattle.fw_orders.specs.declared.fault.LinesFault.{LinesFault}

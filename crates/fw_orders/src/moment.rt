@@ -4,7 +4,7 @@ ghost use Rattle.std.specs.Prelude.{◌≡◌, ◌++◌, ◌∷◌, [], ℕ, IfO
 ghost use Rattle.fuse_spec.specs.World.Events.{is_read, read_forgets};
 ghost use Rattle.fw_orders.specs.Attempts.{AreTried, Attempted, AttemptedIn, CannotHappen, ForgetRead, IsTried, ReplyTaken};
 ghost use Rattle.fw_orders.specs.Attempts.{one_more_left, then_said, unique_read};
-ghost use Rattle.fw_frames.specs.HexTexts.{hex_or_none};
+ghost use Rattle.fuse_text.specs.HexTexts.{hex_or_none};
 ghost use Rattle.fw_orders.specs.Following.{IsMounted};
 ghost use Rattle.fw_orders.specs.Saying.{act_of, write_event};
 ghost use Rattle.fw_world.specs.Values.{event_of, outcome_of, read_of};

@@ -2,7 +2,7 @@
 
 ghost use Rattle.std.specs.Prelude.{◌≡◌, ◌↔◌, ◌++◌, ◌∷◌, [], ℕ, List, IfErr, IfOk, IsTrue, MatchOption};
 ghost use Rattle.std.specs.Prelude.{MatchResult, OnOk, codes, option_map};
-ghost use Rattle.fw_script.specs.Scripts.{lines_of};
+ghost use Rattle.fuse_text.specs.Lines.{lines_of};
 ghost use Rattle.fw_orders.specs.FileLines.{FileLine as FileLineValue, HaveParts, IsAlone, IsCall, IsStep, IsTogether, Joins};
 ghost use Rattle.fw_orders.specs.FileLines.{JoinsNot, LineSays, LineSaysNot, Make, Says, SaysNot, step_said, together};
 ghost use Rattle.fw_orders.specs.Reading.{Added, AddsNot, GroupTaken, IsFull, IsJoined, LeavesOut, ReadingEnds, file_line_of, stopped_at, together_of};

@@ -2,7 +2,7 @@
 
 ghost use Rattle.std.specs.Prelude.{◌≡◌, ◌⊎◌, ◌++◌, ◌∷◌, [], Contains, IfErr, IfOk, IfSome, OnErr, OnOk, codes, decimal};
 ghost use Rattle.std.specs.Io.KnownBytes.{Appends};
-ghost use Rattle.fw_script.specs.Outputs.{AppendsSome};
+ghost use Rattle.fuse_text.specs.Outputs.{AppendsSome};
 ghost use Rattle.fw_script.specs.Stops.{unreadable};
 ghost use Rattle.fw_orders.specs.Found.{Ends, FinishEnds, Finishes, IsGoodOr, Prints, PrintsOrders, SaysStop, SaysWhy, SearchEnds};
 ghost use Rattle.fw_orders.specs.Saying.{parts_of};

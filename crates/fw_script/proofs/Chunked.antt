@@ -3,8 +3,9 @@ use Rattle.std.proofs.Common.{◌≡◌, ◌++◌, ℕ, List, [], ◌∷◌, Opt
 use Rattle.std.specs.Prelude.{flat_map}
 use Rattle.std.specs.Io.KnownBytes.{Appends}
 use Rattle.fw_script.specs.Chunks.{AppendsBut}
-use Rattle.fw_script.specs.Outputs.{AppendsSome}
-use Rattle.fw_script.proofs.Writes.{Appends-append, some_first, some_then}
+use Rattle.fuse_text.specs.Outputs.{AppendsSome}
+use Rattle.std.proofs.KnownBytes.{Appends-trans}
+use Rattle.fuse_text.proofs.Writes.{some_first, some_then}
 
 -- nothing is held
 pub but_none : (old new : Option (List ℕ)) (text held : List ℕ) → held ≡ [] → Appends old new text
@@ -29,7 +30,7 @@ pub but_then : (old mid new : Option (List ℕ)) (text held more after : List �
     → AppendsBut mid new (held ++ more) after → AppendsBut old new (text ++ more) after
 but_then old mid new text held more after h k = record {
   wrote = h.wrote ++ k.wrote;
-  part = Appends-append old mid new h.wrote k.wrote h.part k.part;
+  part = Appends-trans old mid new h.wrote k.wrote h.part k.part;
   all = append_assoc h.wrote k.wrote after ∙ ap (λ (l : List ℕ). h.wrote ++ l) k.all
       ∙ sym (append_assoc h.wrote held more) ∙ ap (λ (l : List ℕ). l ++ more) h.all;
 }
@@ -37,7 +38,7 @@ but_then old mid new text held more after h k = record {
 -- what is held was then written, or refused
 pub but_written : (old mid new : Option (List ℕ)) (text held : List ℕ) → AppendsBut old mid text held
     → Appends mid new held → Appends old new text
-but_written old mid new text held h wrote = rw (← h.all) (Appends-append old mid new h.wrote held h.part wrote)
+but_written old mid new text held h wrote = rw (← h.all) (Appends-trans old mid new h.wrote held h.part wrote)
 
 pub but_refused : (old mid new : Option (List ℕ)) (text held : List ℕ) → AppendsBut old mid text held
     → AppendsSome mid new held → AppendsSome old new text
@@ -56,7 +57,7 @@ one_put f old mid new before after whole rest x h put =
     let last = flat_map f rest in
     record {
       done = h.done ++ put.wrote;
-      wrote = Appends-append old mid new h.done put.wrote h.wrote put.part;
+      wrote = Appends-trans old mid new h.done put.wrote h.wrote put.part;
       rest = append_assoc h.done put.wrote (after ++ last) ∙ ap (λ (l : List ℕ). h.done ++ l)
           (sym (append_assoc put.wrote after last) ∙ ap (λ (l : List ℕ). l ++ last) put.all ∙ append_assoc before (f x) last)
           ∙ h.rest;

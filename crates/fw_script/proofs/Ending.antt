@@ -4,9 +4,10 @@ use Rattle.std.specs.Prelude.{IfSome}
 use Rattle.std.specs.Io.KnownBytes.{Keeps}
 use Rattle.fuse_spec.specs.World.Worlds.{World, first_world}
 use Rattle.fuse_spec.specs.Claim.Counts.{Protocol as KeepsProtocol}
-use Rattle.fw_script.specs.Outputs.{AppendsSome}
+use Rattle.fuse_text.specs.Outputs.{AppendsSome}
 use Rattle.fw_script.specs.Running.{HasPrinted, InputEnds, IsEither, JudgingEnds, LinesEnd, OverEnds, ReadingEnds, RunEnds, SessionEnds, UnreadEnds}
-use Rattle.fw_script.specs.Scripts.{FirstFaultIs, IsRunOf, IsRunOver, Prints, PrintsFirst, PrintsSome, lines_of, session_machine, world_machine}
+use Rattle.fw_script.specs.Scripts.{FirstFaultIs, IsRunOf, IsRunOver, Prints, PrintsFirst, PrintsSome, session_machine, world_machine}
+use Rattle.fuse_text.specs.Lines.{lines_of}
 use Rattle.fw_script.specs.Stops.{SaysFault, status_of, stop_line, unreadable}
 use Rattle.fw_script.specs.declared.stop.Stop.{Stop}
 use Rattle.fw_script.specs.declared.stop.Stop.TheVariants as stop

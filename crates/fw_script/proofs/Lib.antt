@@ -1,14 +1,12 @@
+pub mod AnswerParts
 pub mod Chunked
 pub mod Mounts
-pub mod Decimals
 pub mod Ending
 pub mod Names
 pub mod Numbering
 pub mod Printing
 pub mod Saying
 pub mod SessionRuns
-pub mod Splitting
 pub mod Statuses
 pub mod Stepping
 pub mod WorldRuns
-pub mod Writes

@@ -1,6 +1,6 @@
 -- The words after `mount`.
 use Rattle.std.proofs.Common.{ℕ, List, [], ◌∷◌, arith}
-use Rattle.fw_script.specs.Words.{HasWords}
+use Rattle.fuse_text.specs.Words.{HasWords}
 use Rattle.fw_script.specs.Arguments.{ArgumentFaultIs, number}
 use Rattle.fw_script.specs.Forms.{arguments_of_mount}
 use Rattle.fw_script.specs.declared.line.LineFault.{LineFault}

@@ -2,7 +2,7 @@
 use Rattle.std.proofs.Common.{◌≡◌, ◌+◌, ◌<◌, ◌^◌, ◌++◌, ◌==◌, ℕ, List, length, ap, arith, length-append}
 use Rattle.std.proofs.lemmas.List.Splits.{length-slice_split}
 use Rattle.std.proofs.lemmas.List.Sums.{count_by-le-length}
-use Rattle.fw_script.specs.Scripts.{lines_of}
+use Rattle.fuse_text.specs.Lines.{lines_of}
 
 -- a script has one line more than line feeds, so the number of a line fits
 pub line_number_fits : (script : List ℕ) (before rest : List (List ℕ)) → lines_of script ≡ before ++ rest

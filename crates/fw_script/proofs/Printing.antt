@@ -6,12 +6,13 @@ use Rattle.std.specs.Io.KnownBytes.{Appends, Keeps}
 use Rattle.fw_script.specs.Lines.{LineHasWords}
 use Rattle.fw_script.specs.Running.{EachLinePrints, HasPrinted, LineEnds, LinesEnd, Say, no_more, passed_over, says}
 use Rattle.fw_script.specs.Scripts.{Machine, Prints, no_line, next_line, nothing}
-use Rattle.fw_script.specs.Words.{words_of}
+use Rattle.fuse_text.specs.Words.{words_of}
 use Rattle.fw_script.specs.declared.line.Line.{Line}
 use Rattle.fw_script.specs.declared.stop.Stop.{Stop}
 use Rattle.fw_script.specs.declared.stop.Stop.TheVariants as stop
 use Rattle.fw_script.proofs.Saying.{one_said, parts_of}
-use Rattle.fw_script.proofs.Writes.{Appends-append, Appends-Keeps, Appends-nil, some_all, some_then}
+use Rattle.std.proofs.KnownBytes.{Appends-trans, Appends-kept, Appends-nil}
+use Rattle.fuse_text.proofs.Writes.{some_all, some_then}
 use Rattle.fw_world.specs.declared.event.Event.{Event}
 use Rattle.fw_world.specs.declared.record.Record.{Record}
 
@@ -86,7 +87,7 @@ module _ {S A : Type 0} (m : Machine S A) (hex : Bool) (first : S) where
       subst (λ (ls : List Line). Printed ls last old has) (sym (take_more lines k d within)) (record {
         text = printed.text ++ text;
         follows = one_more (take k lines) printed.text mid printed.follows (get_or lines k d) text last comes;
-        written = Appends-append old had has printed.text text printed.written written;
+        written = Appends-trans old had has printed.text text printed.written written;
       })
 
   -- Why a line ends the run.
@@ -100,7 +101,7 @@ module _ {S A : Type 0} (m : Machine S A) (hex : Bool) (first : S) where
       let parts = parts_of texts lines said (take k lines) (drop k lines) (sym (take-append-drop k lines)) in
       let all : Appends old has printed.text =
       subst (λ (l : List ℕ). Appends old has l) (append-nil printed.text)
-      (Appends-append old had has printed.text [] printed.written written) in (
+      (Appends-trans old had has printed.text [] printed.written written) in (
         parts.done,
         parts.rest,
         parts.whole,
@@ -131,7 +132,7 @@ module _ {S A : Type 0} (m : Machine S A) (hex : Bool) (first : S) where
   all_went lines k last old had has done all printed kept texts said = (
     printed.text,
     printed.follows texts (subst (λ (ls : List Line). Say texts ls) (sym all) said),
-    Appends-Keeps old had has printed.text printed.written kept,
+    Appends-kept old had has printed.text printed.written kept,
   )
 
   pub all_refused : (T : Type 0) → (lines : List Line) (k : ℕ) (last : S) (old had has : Option (List ℕ))
@@ -144,7 +145,7 @@ module _ {S A : Type 0} (m : Machine S A) (hex : Bool) (first : S) where
     sym (append-nil texts),
     printed.text,
     printed.follows texts (subst (λ (ls : List Line). Say texts ls) (sym all) said),
-    some_all old has printed.text (Appends-Keeps old had has printed.text printed.written kept),
+    some_all old has printed.text (Appends-kept old had has printed.text printed.written kept),
   )
 
   pub all_ended : {T : Type 0} → (lines : List Line) (k : ℕ) (last : S) (old had has : Option (List ℕ))

@@ -3,7 +3,7 @@ use Rattle.std.proofs.Common.{◌≡◌, ◌++◌, ℕ, List, [], ◌∷◌, app
 use Rattle.fw_script.specs.Lines.{LineHasWords}
 use Rattle.fw_script.specs.Running.{Say, no_more, passed_over, says}
 use Rattle.fw_script.specs.Scripts.{IsPassedOver}
-use Rattle.fw_script.specs.Words.{words_of}
+use Rattle.fuse_text.specs.Words.{words_of}
 use Rattle.fw_script.specs.declared.line.Line.{Line}
 
 -- one text after another

@@ -2,8 +2,8 @@
 use Rattle.std.specs.Prelude.{◌≡◌, ◌<◌, ◌≤◌, ◌^◌, ℕ, List, ◌∷◌, All, Bool, true, false, codes, decimal, length}
 use Rattle.fuse_spec.specs.declared.Minor.{Minor}
 use Rattle.fuse_spec.specs.declared.Minor.TheVariants.{M15, M31}
-use Rattle.fw_frames.specs.HexTexts.{IsHexOrNone}
-use Rattle.fw_script.specs.Words.{HasWords}
+use Rattle.fuse_text.specs.HexTexts.{IsHexOrNone}
+use Rattle.fuse_text.specs.Words.{HasWords}
 use Rattle.fw_script.specs.declared.line.LineFault.{LineFault}
 use Rattle.fw_script.specs.declared.line.LineFault.TheVariants as faults
 

@@ -3,7 +3,7 @@ use Rattle.std.specs.Prelude.{ℕ, List, [], ◌∷◌, codes, decimal}
 use Rattle.fk_syscalls.specs.declared.call.Call.{Call}
 use Rattle.fk_syscalls.specs.declared.call.Call.TheVariants as call
 use Rattle.fw_script.specs.Arguments.{Argument, number, text, bytes, IsText}
-use Rattle.fw_frames.specs.HexTexts.{hex_or_none}
+use Rattle.fuse_text.specs.HexTexts.{hex_or_none}
 use Rattle.fw_script.specs.declared.call_line.CallForm.{CallForm}
 use Rattle.fw_script.specs.declared.call_line.CallForm.TheVariants as form
 use Rattle.fw_script.specs.declared.call_line.PathForm.{PathForm}

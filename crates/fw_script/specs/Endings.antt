@@ -1,7 +1,7 @@
 -- How the run of a script ends, by its exit status.
 use Rattle.std.specs.Prelude.{◌≡◌, ◌⊎◌, ℕ, List, [], ◌∷◌, Option, Contains, IfSome, codes}
 use Rattle.std.specs.Io.KnownBytes.{Keeps}
-use Rattle.fw_script.specs.Outputs.{AppendsSome}
+use Rattle.fuse_text.specs.Outputs.{AppendsSome}
 use Rattle.fw_script.specs.Scripts.{IsGoodScript, PrintsAll, PrintsFirst, PrintsSome}
 use Rattle.fw_script.specs.Stops.{SaysFault}
 

@@ -4,9 +4,7 @@ pub mod Chunks
 pub mod Endings
 pub mod Forms
 pub mod Lines
-pub mod Outputs
 pub mod Records
 pub mod Running
 pub mod Scripts
 pub mod Stops
-pub mod Words

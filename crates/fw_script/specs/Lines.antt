@@ -5,7 +5,7 @@ use Rattle.fuse_spec.specs.declared.Minor.TheVariants.{M15, M31}
 use Rattle.fw_script.specs.Arguments.{ArgumentFaultIs, IsText, minor_word, signal_word}
 use Rattle.fw_script.specs.CallLines.{HasTexts, spelled_call}
 use Rattle.fw_script.specs.Forms.{form_words, arguments_of}
-use Rattle.fw_frames.specs.HexTexts.{IsHexOrNone}
+use Rattle.fuse_text.specs.HexTexts.{IsHexOrNone}
 use Rattle.fw_script.specs.declared.form.Form.{Form}
 use Rattle.fw_script.specs.declared.line.LineFault.{LineFault}
 use Rattle.fw_script.specs.declared.line.LineFault.TheVariants as faults

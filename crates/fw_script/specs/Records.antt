@@ -21,7 +21,7 @@ use Rattle.fk_syscalls.specs.declared.call.Answer.{Answer}
 use Rattle.fk_syscalls.specs.declared.call.Answer.TheVariants as answer
 use Rattle.fw_world.specs.declared.record.Record.{Record}
 use Rattle.fw_world.specs.declared.record.Record.TheVariants as records
-use Rattle.fw_frames.specs.HexTexts.{hex_or_none}
+use Rattle.fuse_text.specs.HexTexts.{hex_or_none}
 
 -- what became of a taken request
 abbrev pub taken_word : Taken → List ℕ

@@ -2,9 +2,9 @@
 use Rattle.std.specs.Prelude.{◌≡◌, ◌++◌, ◌∷◌, [], ◌⊎◌, ℕ, Bool, List, Option, Result, Ok, Err, IfSome}
 use Rattle.std.specs.Io.KnownBytes.{Appends, Keeps}
 use Rattle.fw_script.specs.Lines.{LineHasWords}
-use Rattle.fw_script.specs.Outputs.{AppendsSome}
+use Rattle.fuse_text.specs.Outputs.{AppendsSome}
 use Rattle.fw_script.specs.Scripts.{FirstFaultIs, IsGoodScript, IsPassedOver, Machine, Prints, PrintsAll, PrintsFirst, PrintsLine, PrintsSome}
-use Rattle.fw_script.specs.Words.{words_of}
+use Rattle.fuse_text.specs.Words.{words_of}
 use Rattle.fw_script.specs.declared.line.Line.{Line}
 use Rattle.fw_script.specs.declared.stop.Stop.{Stop}
 use Rattle.fw_script.specs.declared.stop.Stop.TheVariants as stop

@@ -1,14 +1,14 @@
 -- What a script is, which events it has, and what its run prints.
-use Rattle.std.specs.Prelude.{◌≡◌, ◌+◌, ◌⊎◌, ◌++◌, ◌∷◌, [], ◌==◌, ℕ, Bool, true, false, List, All, Option, None, length, slice_index, codes, map}
+use Rattle.std.specs.Prelude.{◌≡◌, ◌+◌, ◌⊎◌, ◌++◌, ◌∷◌, [], ℕ, Bool, true, false, List, All, Option, None, length, slice_index, codes, map}
 use Rattle.std.specs.Prelude.{IfSome}
 use Rattle.std.specs.Io.KnownBytes.{Appends}
-use Rattle.std.specs.List.{slice_split}
 use Rattle.fuse_spec.specs.World.Worlds.{World, first_world}
 use Rattle.fw_link.specs.Traffic.{Traffic}
 use Rattle.fw_script.specs.Lines.{WordsFaultIs, LineHasWords}
-use Rattle.fw_script.specs.Outputs.{AppendsSome}
+use Rattle.fuse_text.specs.Lines.{lines_of}
+use Rattle.fuse_text.specs.Outputs.{AppendsSome}
 use Rattle.fw_script.specs.Records.{event_text, nodes_text}
-use Rattle.fw_script.specs.Words.{parts_left, words_of}
+use Rattle.fuse_text.specs.Words.{words_of}
 use Rattle.fw_script.specs.declared.line.LineFault.{LineFault}
 use Rattle.fw_script.specs.declared.line.Line.{Line}
 use Rattle.fw_script.specs.declared.line.Line.TheVariants as lines
@@ -22,14 +22,6 @@ use Rattle.fw_world.specs.Runs.{RunsAs, RunsOne}
 use Rattle.fw_world.specs.Values.{counted_nodes, event_of, held_nodes, run_record_of}
 
 -- ---- lines
-
--- the lines: what stands before, between and after the line feeds
-abbrev pub lines_of : List ℕ → List (List ℕ)
-lines_of text = slice_split (λ byte. byte == 10) text
-
--- the lines after the line feed that ends a line, none where no line feed does
-abbrev pub lines_left : Option (List ℕ) → List (List ℕ)
-lines_left rest = parts_left 10 rest
 
 -- a line with no event: an empty one, or one that begins with `#`
 abbrev pub IsPassedOver : List ℕ → Type 0

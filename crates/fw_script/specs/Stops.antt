@@ -1,6 +1,6 @@
 -- What ends a run early: exit statuses and lines.
 use Rattle.std.specs.Prelude.{ℕ, List, Option, ◌⊎◌, ◌++◌, IfSome, codes, decimal}
-use Rattle.fw_script.specs.Outputs.{AppendsSome}
+use Rattle.fuse_text.specs.Outputs.{AppendsSome}
 use Rattle.fw_script.specs.Scripts.{FirstFaultIs}
 use Rattle.fw_script.specs.declared.line.LineFault.{LineFault}
 use Rattle.fw_script.specs.declared.line.LineFault.TheVariants as faults

@@ -5,15 +5,13 @@ ghost use Rattle.std.specs.Prelude.{MatchResult, decimal, option_copied};
 ghost use Rattle.fw_script.specs.Arguments.{ArgumentFaultIs, IsMinor, IsSignal, IsText, minor_word, signal_word};
 ghost use Rattle.fw_script.specs.Arguments.{bytes, number, signal, text};
 ghost use Rattle.fw_script.specs.Forms.{arguments_of_mount};
-ghost use Rattle.fw_frames.specs.HexTexts.{IsHexOrNone};
+ghost use Rattle.fuse_text.specs.HexTexts.{IsHexOrNone};
 ghost use Rattle.fw_script.specs.Lines.{EndsAt};
-ghost use Rattle.fw_script.specs.Words.{words_left};
+ghost use Rattle.fuse_text.specs.Words.{words_left};
 
-use crate::hex_text::is_hex_or_none;
 use crate::line::LineFault;
-use crate::number::read_number;
-use crate::word::{one_word, three_words, two_words};
 use fuse_spec::Minor;
+use fuse_text::{is_hex_or_none, one_word, read_number, three_words, two_words};
 
 /// Whether a word is made of bytes from 33 to 126.
 fn is_text(word: &[u8]) -> bool

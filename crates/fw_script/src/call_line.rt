@@ -4,7 +4,7 @@ ghost use Rattle.std.specs.Prelude.{◌≡◌, ◌≢◌, ◌∷◌, [], MatchOp
 ghost use Rattle.fw_script.specs.Arguments.{ArgumentFaultIs, IsText};
 ghost use Rattle.fw_script.specs.CallLines.{HasTexts, arguments_of_call, call_name, path_name, spelled_call};
 ghost use Rattle.fw_script.specs.Lines.{LineHasWords};
-ghost use Rattle.fw_script.specs.Words.{words_left};
+ghost use Rattle.fuse_text.specs.Words.{words_left};
 
 use crate::arguments::{
     one_number, one_text, text_and_number, three_numbers, two_numbers_and_hex, two_texts,

@@ -2,10 +2,10 @@
 
 ghost use Rattle.std.specs.Prelude.{◌≡◌, ◌≢◌, ◌++◌, ◌∷◌, [], ℕ, List, IfSome, MatchOption, option_copied};
 ghost use Rattle.fw_script.specs.Forms.{form_words, read_name, word_name};
-ghost use Rattle.fw_script.specs.Words.{words_of, words_left};
+ghost use Rattle.fuse_text.specs.Words.{words_of, words_left};
 
 use crate::call_line::{CallForm, form_of_call};
-use crate::word::split_word;
+use fuse_text::split_word;
 
 /// What a line begins with: a word, or `call` or `read` and a second.
 #[derive(Clone, Copy)]

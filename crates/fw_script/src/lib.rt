@@ -5,29 +5,22 @@ mod arguments;
 mod call_line;
 mod chunk;
 mod form;
-mod hex_text;
 mod line;
 mod lines;
 mod machine;
-mod number;
-mod output;
 mod print;
 mod records;
 mod script;
-mod short_text;
-mod split;
 mod stop;
-mod word;
 
+pub use fuse_text::{
+    OutputRefused, Words, is_hex_or_none, read_hex_or_none, read_number, split_at, split_word,
+    write_hex, write_hex_or_none, write_number, write_text,
+};
 pub use fw_frames::run_frame;
-pub use hex_text::{is_hex_or_none, read_hex_or_none, write_hex, write_hex_or_none};
 pub use line::{Line, LineFault, read_line};
 pub use lines::{Lines, is_passed_over};
-pub use number::read_number;
-pub use output::{OutputRefused, write_number, write_text};
 pub use print::{name_of_refusal, number_of_refusal, word_of_effect, word_of_kind};
 pub use records::write_record;
 pub use script::{Script, run_lists, run_over, run_script, write_nodes};
-pub use split::split_at;
 pub use stop::{bad_line, cannot_read, no_memory, socket_failed};
-pub use word::{Words, split_word};

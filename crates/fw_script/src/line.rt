@@ -4,7 +4,7 @@ ghost use Rattle.std.specs.Prelude.{◌≡◌, ◌∷◌, [], MatchResult, codes
 ghost use Rattle.fw_script.specs.Arguments.{ArgumentFaultIs};
 ghost use Rattle.fw_script.specs.Forms.{after_read, after_word, read_name, word_name};
 ghost use Rattle.fw_script.specs.Lines.{WordsFaultIs, LineHasWords};
-ghost use Rattle.fw_script.specs.Words.{words_left, words_of};
+ghost use Rattle.fuse_text.specs.Words.{words_left, words_of};
 
 use crate::arguments::{
     no_words, number_and_signal, number_and_text, one_number, two_numbers_and_minor,

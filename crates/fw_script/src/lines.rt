@@ -6,12 +6,13 @@ ghost use Rattle.std.specs.Iterator.{YieldsFirstRef, item_count};
 ghost use Rattle.fw_script.specs.Lines.{IsWritten, LineHasWords};
 ghost use Rattle.fw_script.specs.Running.{JudgingEnds, Say};
 ghost use Rattle.fw_script.specs.Scripts.{IsGoodLine, IsGoodScript};
-ghost use Rattle.fw_script.specs.Scripts.{IsPassedOver, LineFaultIs, lines_left, lines_of};
-ghost use Rattle.fw_script.specs.Words.{words_of};
+ghost use Rattle.fw_script.specs.Scripts.{IsPassedOver, LineFaultIs};
+ghost use Rattle.fuse_text.specs.Lines.{lines_left, lines_of};
+ghost use Rattle.fuse_text.specs.Words.{words_of};
 
 use crate::line::{Line, LineFault, read_line};
-use crate::split::{find_far, split_at_first};
 use crate::stop::Stop;
+use fuse_text::{find_far, split_at_first};
 use std::alloc::Allocator;
 
 /// What is left of a script, line by line.

@@ -6,8 +6,8 @@ ghost use Rattle.fk_wire.specs.Opcodes.{name_of};
 ghost use Rattle.fw_script.specs.Records.{attributes_words, effect_word, kind_word, outcome_line, refusal_name};
 ghost use Rattle.fw_script.specs.Records.{refusal_number, result_number, taken_word};
 
-use crate::short_text::ShortText;
 use fk_wire::Opcode;
+use fuse_text::ShortText;
 use fw_world::{Attributes, IntrEffect, Kind, Outcome, Refusal, Taken, WriteResult};
 
 /// Puts what became of a taken request, in one word, before a text.

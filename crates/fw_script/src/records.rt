@@ -4,20 +4,18 @@ ghost use Rattle.std.specs.Prelude.{◌≡◌, ◌+◌, ◌≤◌, ◌++◌, ◌
 ghost use Rattle.std.specs.Prelude.{codes, decimal, flat_map, length, map, option_copied};
 ghost use Rattle.std.specs.Io.KnownBytes.{Appends};
 ghost use Rattle.fk_syscalls.specs.Listings.{listed_dirent};
-ghost use Rattle.fw_frames.specs.HexTexts.{hex_or_none};
+ghost use Rattle.fuse_text.specs.HexTexts.{hex_or_none};
 ghost use Rattle.fw_script.specs.Chunks.{AppendsBut};
-ghost use Rattle.fw_script.specs.Outputs.{AppendsSome};
+ghost use Rattle.fuse_text.specs.Outputs.{AppendsSome};
 ghost use Rattle.fw_script.specs.Records.{answer_text, event_text, frame_text, outcome_line, put_text, record_text};
 ghost use Rattle.fw_script.specs.Records.{attributes_words, kind_word, listed_words, refusal_name, refusal_number};
 ghost use Rattle.fw_script.specs.Records.{shown_byte};
 
 use crate::chunk::Chunk;
-use crate::hex_text::{write_hex, write_hex_or_none};
-use crate::output::{OutputRefused, write_text};
 use crate::print::{
     name_of_refusal, number_of_refusal, put_attributes, put_kind_word, put_outcome_line,
 };
-use crate::short_text::ShortText;
+use fuse_text::{OutputRefused, ShortText, write_hex, write_hex_or_none, write_text};
 use fw_world::{Answer, Attributes, Kind, ListedName, Listing, Outcome, Record, Refusal};
 use std::alloc::Allocator;
 use std::io::Write;

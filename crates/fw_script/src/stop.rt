@@ -2,12 +2,11 @@
 
 ghost use Rattle.std.specs.Prelude.{◌≡◌, ◌≢◌, ◌≤◌, ◌++◌, OnErr, OnOk, codes, length};
 ghost use Rattle.std.specs.Io.KnownBytes.{Appends};
-ghost use Rattle.fw_script.specs.Outputs.{AppendsSome};
+ghost use Rattle.fuse_text.specs.Outputs.{AppendsSome};
 ghost use Rattle.fw_script.specs.Stops.{bad_line, line_fault_words, status_of, stop_line, unreadable};
 
 use crate::line::LineFault;
-use crate::output::{OutputRefused, write_text};
-use crate::short_text::ShortText;
+use fuse_text::{OutputRefused, ShortText, write_text};
 use std::io::Write;
 
 /// Why a run ends early.

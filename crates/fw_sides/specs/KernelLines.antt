@@ -2,9 +2,9 @@
 use Rattle.std.specs.Prelude.{◌≡◌, ℕ, List, [], ◌∷◌, ◌++◌, codes, decimal}
 use Rattle.fw_script.specs.Arguments.{IsText, signal_word}
 use Rattle.fw_script.specs.CallLines.{HasTexts, spelled_call}
-use Rattle.fw_frames.specs.HexTexts.{IsHexOrNone, hex_or_none}
+use Rattle.fuse_text.specs.HexTexts.{IsHexOrNone, hex_or_none}
 use Rattle.fw_script.specs.Lines.{spelled_pick}
-use Rattle.fw_script.specs.Words.{words_of}
+use Rattle.fuse_text.specs.Words.{words_of}
 use Rattle.fk_kernel.specs.declared.step.KernelEvent.{KernelEvent}
 use Rattle.fk_kernel.specs.declared.step.KernelEvent.TheVariants as event
 use Rattle.fw_sides.specs.declared.kernel_line.KernelLine.{KernelLine}

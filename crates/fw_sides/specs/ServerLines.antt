@@ -2,9 +2,9 @@
 use Rattle.std.specs.Prelude.{◌≡◌, ℕ, List, [], ◌∷◌, ◌++◌, codes, decimal}
 use Rattle.fuse_spec.specs.declared.WriteResult.{WriteResult}
 use Rattle.fuse_spec.specs.declared.WriteResult.TheVariants.{Accepted, NoEntry, Invalid}
-use Rattle.fw_frames.specs.HexTexts.{IsHexOrNone, hex_or_none}
+use Rattle.fuse_text.specs.HexTexts.{IsHexOrNone, hex_or_none}
 use Rattle.fw_script.specs.Lines.{EndsAt}
-use Rattle.fw_script.specs.Words.{words_of}
+use Rattle.fuse_text.specs.Words.{words_of}
 use Rattle.fs_server.specs.declared.step.ServerEvent.{ServerEvent}
 use Rattle.fs_server.specs.declared.step.ServerEvent.TheVariants as event
 use Rattle.fw_sides.specs.declared.server_line.ServerLine.{ServerLine}

@@ -1,7 +1,8 @@
 //! Lines of an input.
 
+use fuse_text::LineError;
 use std::alloc::Allocator;
-use std::io::{BufRead, ErrorKind};
+use std::io::BufRead;
 use thiserror::Error;
 
 /// Why lines end before the input does.
@@ -15,21 +16,15 @@ pub enum End {
     OutputRefused,
 }
 
-/// Reads the next line in place of the one before, without its line feed. Says whether there was one.
+/// Reads the next line in place of the one before, without its line feed. Says whether there was one: none follows the
+/// last line feed.
 pub(crate) fn next_line<A: Allocator, R: BufRead>(
     input: &mut R,
     line: &mut Vec<u8, A>,
 ) -> Result<bool, End> {
-    line.clear();
-    match input.read_until(b'\n', line) {
-        Ok(0) => Ok(false),
-        Ok(_) => {
-            if line.as_slice().ends_with(b"\n") {
-                let _feed = line.pop();
-            }
-            Ok(true)
-        }
-        Err(error) if error.kind() == ErrorKind::OutOfMemory => Err(End::NoMemory),
-        Err(_) => Err(End::CannotRead),
+    match fuse_text::next_line(input, line) {
+        Ok(is_more) => Ok(is_more || !line.is_empty()),
+        Err(LineError::NoMemory) => Err(End::NoMemory),
+        Err(LineError::CannotRead) => Err(End::CannotRead),
     }
 }

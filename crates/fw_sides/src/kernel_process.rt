@@ -1,7 +1,7 @@
 //! A kernel by itself, given one line after another.
 
 ghost use Rattle.std.specs.Prelude.{◌≡◌, ◌++◌, ℕ, List, OnOk, codes};
-ghost use Rattle.fw_frames.specs.HexTexts.{IsHexOrNone};
+ghost use Rattle.fuse_text.specs.HexTexts.{IsHexOrNone};
 ghost use Rattle.fw_sides.specs.KernelLines.{SaysLine};
 ghost use Rattle.fuse_spec.specs.Kernel.Kernel.{Kernel as KernelState};
 ghost use Rattle.fuse_spec.specs.World.Worlds.{first_kernel};

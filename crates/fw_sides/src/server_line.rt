@@ -2,7 +2,7 @@
 
 ghost use Rattle.std.specs.Prelude.{◌≡◌, ◌++◌, ℕ, List, IfOk, IfSome, IsErr, None, codes, option_copied};
 ghost use Rattle.fw_script.specs.Lines.{LineHasWords};
-ghost use Rattle.fw_script.specs.Words.{words_of};
+ghost use Rattle.fuse_text.specs.Words.{words_of};
 ghost use Rattle.fw_sides.specs.ServerLines.{SaysServerEvent, SaysServerLine, settled_number};
 
 use crate::words::{first_word, two_words};

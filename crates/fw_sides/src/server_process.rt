@@ -1,7 +1,7 @@
 //! A server by itself, given one line after another.
 
 ghost use Rattle.std.specs.Prelude.{◌≡◌, ◌++◌, ℕ, List, OnOk, codes};
-ghost use Rattle.fw_frames.specs.HexTexts.{IsHexOrNone};
+ghost use Rattle.fuse_text.specs.HexTexts.{IsHexOrNone};
 ghost use Rattle.fuse_spec.specs.Server.Server.{Server as ServerState};
 ghost use Rattle.fuse_spec.specs.World.Worlds.{first_server};
 ghost use Rattle.fw_sides.specs.ServerRuns.{DoesServerLine, DoesServerLines, ServerHappens};

@@ -3,7 +3,7 @@ use Rattle.std.proofs.Common.{◌≡◌, ◌++◌, ◌∷◌, refl, ℕ, List, [
 use Rattle.std.specs.Prelude.{flat_map}
 use Rattle.std.specs.Io.KnownBytes.{Appends, Keeps}
 use Rattle.std.proofs.lemmas.Grind.{flat_map-append}
-use Rattle.fw_frames.proofs.Writes.{Appends-append, Appends-nil, Appends-Keeps}
+use Rattle.std.proofs.KnownBytes.{Appends-trans, Appends-nil, Appends-kept}
 use Rattle.fw_vectors.specs.Vectors.{AreVectorLines, IsVectorLine, PrintsVectors}
 
 AreVectorLines-more : (lines : List (List ℕ)) (line : List ℕ) → AreVectorLines lines → IsVectorLine line
@@ -21,7 +21,7 @@ pub prints_more : (old mid new : Option (List ℕ)) (line : List ℕ) → Prints
 prints_more old mid new line h is wrote =
     let text = λ (l : List ℕ). l in
     let whole : Appends old new (flat_map text h.0 ++ line) =
-    Appends-append old mid new (flat_map text h.0) line h.2 wrote in
+    Appends-trans old mid new (flat_map text h.0) line h.2 wrote in
     let last : flat_map text (line ∷ []) ≡ line = append-nil line in
     let same : flat_map text (h.0 ++ (line ∷ [])) ≡ flat_map text h.0 ++ line =
     flat_map-append text h.0 (line ∷ []) ∙ ap (λ l. flat_map text h.0 ++ l) last in
@@ -29,4 +29,4 @@ prints_more old mid new line h is wrote =
 
 -- a flush after them
 pub prints_kept : (old mid new : Option (List ℕ)) → PrintsVectors old mid → Keeps mid new → PrintsVectors old new
-prints_kept old mid new h keeps = (h.0, h.1, Appends-Keeps old mid new (flat_map (λ l. l) h.0) h.2 keeps)
+prints_kept old mid new h keeps = (h.0, h.1, Appends-kept old mid new (flat_map (λ l. l) h.0) h.2 keeps)

@@ -12,7 +12,7 @@ ghost use Rattle.fw_vectors.specs.Members.{further, comma_list, reply_members};
 use crate::entry_members::{write_attr, write_entry};
 use crate::request_members::{write_fh, write_init};
 use fk_wire::{Attr, Dirent, DirentPlus, Entry, Records, RecordsPlus, ReplyBody};
-use fw_frames::write_hex;
+use fuse_text::print_hex;
 use std::io;
 use std::io::Write;
 
@@ -37,7 +37,7 @@ fn write_dirent<W: Write>(out: &mut W, dirent: &Dirent<'_>) -> io::Result<()>
     ensures { OnOk result (Appends (W.contents out.old) (W.contents out.new) (dirent_object (dirent_content dirent.now))) }
 {
     write_dirent_numbers(out, dirent)?;
-    write_hex(out, dirent.name)?;
+    print_hex(out, dirent.name)?;
     out.write_all(b"\"}")
 }
 
@@ -181,7 +181,7 @@ fn write_data<W: Write>(out: &mut W, bytes: &[u8]) -> io::Result<()>
         (codes "\"data\":\"" ++ encode_lower bytes.now ++ codes "\"")) }
 {
     out.write_all(b"\"data\":\"")?;
-    write_hex(out, bytes)?;
+    print_hex(out, bytes)?;
     out.write_all(b"\"")
 }
 

@@ -11,7 +11,7 @@ ghost use Rattle.fw_vectors.specs.Members.{rename_members, request_members, writ
 
 use bitflags::Flags;
 use fk_wire::{InitFlags, Pairs, RequestBody};
-use fw_frames::write_hex;
+use fuse_text::print_hex;
 use std::io;
 use std::io::Write;
 
@@ -20,7 +20,7 @@ fn write_name<W: Write>(out: &mut W, name: &[u8]) -> io::Result<()>
     ensures { OnOk result (Appends (W.contents out.old) (W.contents out.new) (name_member name.now)) }
 {
     out.write_all(b"\"name\":\"")?;
-    write_hex(out, name)?;
+    print_hex(out, name)?;
     out.write_all(b"\"")
 }
 
@@ -54,7 +54,7 @@ fn write_data<W: Write>(out: &mut W, fh: u64, offset: u64, bytes: &[u8]) -> io::
 {
     write_file_range(out, fh, offset, bytes.len() as u64)?;
     out.write_all(b",\"data\":\"")?;
-    write_hex(out, bytes)?;
+    print_hex(out, bytes)?;
     out.write_all(b"\"")
 }
 
@@ -88,9 +88,9 @@ fn write_names<W: Write>(out: &mut W, old: &[u8], new: &[u8]) -> io::Result<()>
     ensures { OnOk result (Appends (W.contents out.old) (W.contents out.new)
         (encode_lower old.now ++ codes "\",\"new\":\"" ++ encode_lower new.now ++ codes "\"")) }
 {
-    write_hex(out, old)?;
+    print_hex(out, old)?;
     out.write_all(b"\",\"new\":\"")?;
-    write_hex(out, new)?;
+    print_hex(out, new)?;
     out.write_all(b"\"")
 }
 

@@ -14,7 +14,7 @@ use crate::reply_members::write_reply_members;
 use crate::request_members::write_request_members;
 use fk_fields::u32_at;
 use fk_wire::{Minor, Opcode, Reply, Request, WireFault, read_reply_at, read_request_at};
-use fw_frames::write_hex;
+use fuse_text::print_hex;
 use std::io;
 use std::io::Write;
 
@@ -47,7 +47,7 @@ fn write_frame_members<W: Write>(out: &mut W, minor: Minor, frame: &[u8]) -> io:
 {
     let number = number_of_minor(minor);
     write!(out, ",\"minor\":{number},\"hex\":\"")?;
-    write_hex(out, frame)?;
+    print_hex(out, frame)?;
     out.write_all(b"\",")
 }
 

@@ -1,7 +1,7 @@
 use Rattle.std.proofs.Common.{inr, refl}
 use Rattle.fuse_protocol.specs.Agreement.{before_init}
 use Rattle.frame_words.proofs.NoHeader.{no_opcode}
-use Rattle.frame_words.proofs.Writes.{OnOk-map}
+use Rattle.fuse_text.proofs.Writes.{OnOk-map}
 use Rattle.frame_words.proofs.frames.write_known_head.Goals as goal
 
 pub returns-in-Err : goal.returns-in-Err

@@ -1,5 +1,5 @@
 use Rattle.std.proofs.Common.{inr, refl, sym, true≢false}
-use Rattle.frame_words.proofs.Writes.{OnOk-map}
+use Rattle.fuse_text.proofs.Writes.{OnOk-map}
 use Rattle.frame_words.proofs.frames.write_offer.Goals as goal
 
 pub returns-in-Err : goal.returns-in-Err

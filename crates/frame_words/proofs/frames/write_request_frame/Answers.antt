@@ -2,7 +2,8 @@ use Rattle.std.proofs.Common.{◌++◌, inl, inr, refl, length}
 use Rattle.fuse_protocol.specs.Requests.{request_message}
 use Rattle.frame_words.specs.Frames.{bad_request_words}
 use Rattle.frame_words.specs.Requests.{request_words}
-use Rattle.frame_words.proofs.Writes.{Appends-append, OnOk-map}
+use Rattle.std.proofs.KnownBytes.{Appends-trans}
+use Rattle.fuse_text.proofs.Writes.{OnOk-map}
 use Rattle.frame_words.proofs.frames.write_request_frame.Goals as goal
 
 pub returns-in_ok-write_request-in-Ok : goal.returns-in_ok-write_request-in-Ok
@@ -14,7 +15,7 @@ returns-in_ok-write_request-in-Ok g c =
       text ++ offer.0,
       inl
           (request.head.opcode, request_message request, c.in-Ok.ensures.ok, offer.0, offer.1, refl),
-      Appends-append (now c.args.out.now) (now c.write_request.new.out) (now c.write_offer.new.out) text offer.0
+      Appends-trans (now c.args.out.now) (now c.write_request.new.out) (now c.write_offer.new.out) text offer.0
           c.in_ok-write_request-in-Ok.ensures offer.2,
     )) c.write_offer.ensures
 
@@ -27,6 +28,6 @@ returns-in_ok-write_known_head-in-Err g c =
       head.0 ++ text,
       inr
           (c.in-Err.fault, c.in-Err.ensures.fault, head.0, head.1, refl),
-      Appends-append (now c.args.out.now) (now c.write_known_head.new.out) (now c.write_shape_fault.new.out) head.0 text
+      Appends-trans (now c.args.out.now) (now c.write_known_head.new.out) (now c.write_shape_fault.new.out) head.0 text
           head.2 wrote,
     )) c.write_shape_fault.ensures

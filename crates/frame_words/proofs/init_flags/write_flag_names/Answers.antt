@@ -4,7 +4,7 @@ use Rattle.std.specs.List.{range_with_len}
 use Rattle.std.specs.Io.KnownBytes.{Appends}
 use Rattle.frame_words.specs.InitFlags.{flag_names_words, flag_words}
 use Rattle.frame_words.proofs.Ranges.{flat_map-range_more}
-use Rattle.frame_words.proofs.Writes.{Appends-append}
+use Rattle.std.proofs.KnownBytes.{Appends-trans}
 use Rattle.frame_words.proofs.init_flags.write_flag_names.Goals as goal
 
 pub loop-bit-preserved : goal.loop-bit-preserved
@@ -12,7 +12,7 @@ loop-bit-preserved g c =
     let now = g.W.Write.contents in
     let words = flag_words c.args.flags in
     let bit = c.loop-bit.bit in
-    rw (flat_map-range_more words bit) (Appends-append (now c.args.out.now) (now c.loop-bit.out)
+    rw (flat_map-range_more words bit) (Appends-trans (now c.args.out.now) (now c.loop-bit.out)
     (now c.write_flag.new.out) (flat_map words (range_with_len 0 bit)) (words bit) c.loop-bit.invariant
     c.in_ok-write_flag.ensures)
 

@@ -1,7 +1,7 @@
 use Rattle.std.proofs.Common.{◌≡◌, ◌∷◌}
 use Rattle.fuse_replies.specs.NodeIds.{node_ids_in}
 use Rattle.frame_words.specs.Replies.{node_words}
-use Rattle.frame_words.proofs.Writes.{Left, none_done, one_more, all_done}
+use Rattle.fuse_text.proofs.Writes.{Left, none_done, one_more, all_done}
 use Rattle.frame_words.proofs.notifications.write_each_node.Goals as goal
 
 pub loop-nodeid-init : goal.loop-nodeid-init

@@ -1,6 +1,6 @@
 use Rattle.fuse_replies.specs.NodeIds.{node_ids_in}
 use Rattle.frame_words.specs.Replies.{node_words}
-use Rattle.frame_words.proofs.Writes.{Left}
+use Rattle.fuse_text.proofs.Writes.{Left}
 use Rattle.frame_words.proofs.notifications.write_each_node.Given as goal
 
 abbrev pub invariant-loop-nodeid : goal.invariant-loop-nodeid

@@ -2,7 +2,7 @@ use Rattle.std.proofs.Common.{◌≡◌, ◌∷◌}
 use Rattle.fuse_replies.specs.Record.{entry_record_content}
 use Rattle.fuse_replies.specs.Records.{entry_records_in}
 use Rattle.frame_words.specs.Replies.{entry_record_words}
-use Rattle.frame_words.proofs.Writes.{Left, none_done, one_more, all_done}
+use Rattle.fuse_text.proofs.Writes.{Left, none_done, one_more, all_done}
 use Rattle.frame_words.proofs.replies.write_entry_records.Goals as goal
 
 pub loop-pair-init : goal.loop-pair-init

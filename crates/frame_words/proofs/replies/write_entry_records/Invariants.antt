@@ -1,6 +1,6 @@
 use Rattle.fuse_replies.specs.Records.{entry_records_in}
 use Rattle.frame_words.specs.Replies.{entry_record_words}
-use Rattle.frame_words.proofs.Writes.{Left}
+use Rattle.fuse_text.proofs.Writes.{Left}
 use Rattle.frame_words.proofs.replies.write_entry_records.Given as goal
 
 abbrev pub invariant-loop-pair : goal.invariant-loop-pair

@@ -1,6 +1,6 @@
 use Rattle.fuse_replies.specs.Records.{records_in}
 use Rattle.frame_words.specs.Replies.{record_words}
-use Rattle.frame_words.proofs.Writes.{Left}
+use Rattle.fuse_text.proofs.Writes.{Left}
 use Rattle.frame_words.proofs.replies.write_records.Given as goal
 
 abbrev pub invariant-loop-listed : goal.invariant-loop-listed

@@ -1,7 +1,7 @@
 use Rattle.std.proofs.Common.{◌≡◌, ◌∷◌, ℕ}
 use Rattle.fuse_protocol.specs.Pairs.{pairs_in}
 use Rattle.frame_words.specs.Requests.{pair_words}
-use Rattle.frame_words.proofs.Writes.{Left, none_done, one_more, all_done}
+use Rattle.fuse_text.proofs.Writes.{Left, none_done, one_more, all_done}
 use Rattle.frame_words.proofs.requests.write_pairs.Goals as goal
 
 pub loop-one-init : goal.loop-one-init

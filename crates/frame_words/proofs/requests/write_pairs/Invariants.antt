@@ -1,6 +1,6 @@
 use Rattle.fuse_protocol.specs.Pairs.{pairs_in}
 use Rattle.frame_words.specs.Requests.{pair_words}
-use Rattle.frame_words.proofs.Writes.{Left}
+use Rattle.fuse_text.proofs.Writes.{Left}
 use Rattle.frame_words.proofs.requests.write_pairs.Given as goal
 
 abbrev pub invariant-loop-one : goal.invariant-loop-one

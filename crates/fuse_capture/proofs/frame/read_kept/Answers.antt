@@ -1,5 +1,5 @@
 use Rattle.std.specs.Prelude.{option_copied}
-use Rattle.fuse_capture.specs.Readings.{words_left}
+use Rattle.fuse_text.specs.Words.{words_left}
 use Rattle.fuse_capture.proofs.FrameLaws.{no_hex_kept, kept_too_long, kept_reads}
 use Rattle.std.proofs.Common.{refl}
 use Rattle.fuse_capture.proofs.frame.read_kept.Goals as goal

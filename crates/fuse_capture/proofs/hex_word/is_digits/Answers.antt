@@ -2,7 +2,7 @@ use Rattle.std.proofs.Common.{subst, take_all, ◌≡◌, true}
 use Rattle.std.specs.Prelude.{◌↔◌, IsTrue}
 use Rattle.std.specs.List.{AllPass}
 use Rattle.hex.specs.Hex.{is_hex_digit}
-use Rattle.fuse_capture.proofs.Digits.{one_more_tested}
+use Rattle.fuse_text.proofs.Digits.{one_more_tested}
 use Rattle.fuse_capture.proofs.hex_word.is_digits.Goals as goal
 
 pub loop-byte-preserved : goal.loop-byte-preserved

@@ -1,8 +1,8 @@
 use Rattle.std.proofs.Common.{◌≡◌, ℕ, Bor, List, [], Option, Some, None, true, length, ap, arith}
 use Rattle.std.specs.Prelude.{is_some, option_copied}
-use Rattle.fuse_capture.specs.Readings.{words_left}
+use Rattle.fuse_text.specs.Words.{words_left}
 use Rattle.fuse_capture.proofs.ResultLaws.{no_result}
-use Rattle.fuse_capture.proofs.Splitting.{words_of_some}
+use Rattle.fuse_text.proofs.Splitting.{words_of_some}
 use Rattle.fuse_capture.proofs.outcome.read_taken.Goals as goal
 
 some_words : (rest : Option (Bor (List ℕ))) → is_some rest ≡ true → words_left (option_copied rest) ≡ [] → ⊥

@@ -1,5 +1,5 @@
 use Rattle.std.proofs.Common.{length, ap, arith}
-use Rattle.fuse_capture.proofs.Splitting.{words_of_some}
+use Rattle.fuse_text.proofs.Splitting.{words_of_some}
 use Rattle.fuse_capture.proofs.parts.one_word.Goals as goal
 
 pub returns-in_default-Some : goal.returns-in_default-Some

@@ -1,4 +1,5 @@
-use Rattle.fuse_capture.specs.Lines.{HasNoTransfer, LineFaultIs, words_of}
+use Rattle.fuse_capture.specs.Lines.{HasNoTransfer, LineFaultIs}
+use Rattle.fuse_text.specs.Words.{words_of}
 use Rattle.fuse_capture.specs.Readings.{IsBad}
 use Rattle.fuse_capture.proofs.LineLaws.{line_fault, on_error}
 use Rattle.fuse_capture.proofs.read.read_line.Goals as goal

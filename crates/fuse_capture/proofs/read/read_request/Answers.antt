@@ -1,6 +1,6 @@
 use Rattle.std.proofs.Common.{length, ap, arith}
 use Rattle.fuse_capture.proofs.LineLaws.{request_fault, request_left, request_reads}
-use Rattle.fuse_capture.proofs.Splitting.{words_of_some}
+use Rattle.fuse_text.proofs.Splitting.{words_of_some}
 use Rattle.fuse_capture.proofs.read.read_request.Goals as goal
 
 pub returns-in-Ok-default-Some : goal.returns-in-Ok-default-Some

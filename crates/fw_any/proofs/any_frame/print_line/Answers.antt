@@ -1,6 +1,7 @@
 use Rattle.std.proofs.Common.{◌++◌}
 use Rattle.std.specs.Prelude.{codes}
-use Rattle.fw_frames.proofs.Writes.{Appends-Keeps, OnOk-always}
+use Rattle.std.proofs.KnownBytes.{Appends-kept}
+use Rattle.fuse_text.proofs.Writes.{OnOk-always}
 use Rattle.fw_any.proofs.any_frame.print_line.Goals as goal
 
 pub returns : goal.returns
@@ -10,6 +11,6 @@ returns g c =
     OnOk-always _ c.flush.result (
       said.0,
       said.1,
-      Appends-Keeps (now c.args.out.now) (now c.write_line.new.out) (now c.flush.new.self) (said.0 ++ codes "\n") said.2
+      Appends-kept (now c.args.out.now) (now c.write_line.new.out) (now c.flush.new.self) (said.0 ++ codes "\n") said.2
           c.flush.ensures.bytes,
     )

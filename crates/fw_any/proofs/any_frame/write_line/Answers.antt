@@ -1,5 +1,6 @@
 use Rattle.std.specs.Prelude.{codes}
-use Rattle.fw_frames.proofs.Writes.{Appends-append, OnOk-map}
+use Rattle.std.proofs.KnownBytes.{Appends-trans}
+use Rattle.fuse_text.proofs.Writes.{OnOk-map}
 use Rattle.fw_any.proofs.any_frame.write_line.Goals as goal
 
 pub returns : goal.returns
@@ -9,6 +10,6 @@ returns g c =
     OnOk-map _ _ c.write_all.result (λ wrote. (
       said.0,
       said.1,
-      Appends-append (now c.args.out.now) (now c.write_request_frame.new.out) (now c.write_all.new.self) said.0 (codes "\n")
+      Appends-trans (now c.args.out.now) (now c.write_request_frame.new.out) (now c.write_all.new.self) said.0 (codes "\n")
           said.2 wrote,
     )) c.write_all.ensures.bytes

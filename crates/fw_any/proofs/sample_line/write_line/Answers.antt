@@ -1,5 +1,5 @@
 use Rattle.std.proofs.Common.{inl, inr}
-use Rattle.fw_frames.proofs.Writes.{OnOk-map}
+use Rattle.fuse_text.proofs.Writes.{OnOk-map}
 use Rattle.fw_any.proofs.sample_line.write_line.Goals as goal
 
 pub returns-in-Request : goal.returns-in-Request

@@ -1,7 +1,7 @@
 use Rattle.std.proofs.Common.{◌≡◌, ◌∙◌, ap, sym, true}
 use Rattle.std.proofs.lemmas.Bool.Decides.{Decides-eqb}
 use Rattle.std.proofs.lemmas.Slice.Eq.{slice_eq-Decides}
-use Rattle.fw_script.specs.Scripts.{lines_of}
+use Rattle.fuse_text.specs.Lines.{lines_of}
 use Rattle.fw_call_names.proofs.Alike.{plain_alike}
 use Rattle.fw_call_names.proofs.PlainTexts.{is_other, is_plain, lines_of_plain}
 use Rattle.fw_call_names.proofs.plain.plain_script.Goals as goal

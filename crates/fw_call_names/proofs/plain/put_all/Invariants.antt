@@ -1,6 +1,6 @@
 use Rattle.std.proofs.Common.{◌≡◌, ◌++◌, ◌∷◌, []}
 use Rattle.std.specs.Prelude.{flat_map, option_copied}
-use Rattle.fw_script.specs.Scripts.{lines_left}
+use Rattle.fuse_text.specs.Lines.{lines_left}
 use Rattle.fw_call_names.specs.CallNames.{names_of}
 use Rattle.fw_call_names.specs.PlainScripts.{plain_lines, plain_script}
 use Rattle.fw_call_names.proofs.plain.put_all.Given as goal

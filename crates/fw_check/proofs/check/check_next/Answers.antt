@@ -1,6 +1,7 @@
 use Rattle.std.proofs.Common.{ℕ, List, subst, sym}
 use Rattle.std.specs.Prelude.{IfSome}
-use Rattle.fw_check.specs.Running.{IsTaken, seen_by}
+use Rattle.fw_check.specs.Running.{seen_by}
+use Rattle.fuse_text.specs.Lines.{IsTaken}
 use Rattle.fw_check.proofs.CheckLaws.{next_done, next_stopped}
 use Rattle.fw_check.proofs.check.check_next.Goals as goal
 

@@ -1,7 +1,8 @@
 use Rattle.std.proofs.Common.{◌++◌, ◌∙◌, List, ℕ, ap, append_assoc, codes, decimal, sym}
 use Rattle.fuse_sessions.specs.Parties.{party_of}
 use Rattle.fw_check.specs.FaultWords.{act_words, fault_words, party_word, past_words}
-use Rattle.fw_check.proofs.Writes.{OnOk-map, after_two}
+use Rattle.fuse_text.proofs.Writes.{OnOk-map}
+use Rattle.fw_check.proofs.Parts.{after_two}
 use Rattle.fw_check.proofs.fault_line.put_fault_line.Goals as goal
 
 pub returns : goal.returns

@@ -2,7 +2,7 @@ use Rattle.std.proofs.Common.{◌≡◌, ◌++◌, Bool, List, ℕ, [], append-n
 use Rattle.std.specs.Prelude.{if◌then◌else◌}
 use Rattle.fw_check.specs.Forms.{counts_text}
 use Rattle.fw_check.specs.Summary.{exchanges_of, table_text}
-use Rattle.fw_check.proofs.Writes.{two_parts}
+use Rattle.fw_check.proofs.Parts.{two_parts}
 use Rattle.fw_check.proofs.form.put_end.Goals.{then-options+in_ok-put_table, else-options}
 use Rattle.fw_check.proofs.form.put_end.Goals as goal
 

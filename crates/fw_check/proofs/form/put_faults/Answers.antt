@@ -1,7 +1,7 @@
 use Rattle.std.proofs.Common.{◌≡◌, ◌++◌, min, ℕ, List, length, ap, arith, sym, take, ◌∙◌}
 use Rattle.fw_check.specs.Forms.{fault_lines}
 use Rattle.fw_check.proofs.FaultLines.{next_line, shorter_lines}
-use Rattle.fw_check.proofs.Writes.{after_two}
+use Rattle.fw_check.proofs.Parts.{after_two}
 use Rattle.fw_check.proofs.form.put_faults.Goals as goal
 
 pub loop-place-preserved : goal.loop-place-preserved

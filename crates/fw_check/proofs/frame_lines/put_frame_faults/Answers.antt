@@ -1,7 +1,7 @@
 use Rattle.std.proofs.Common.{◌≡◌, ◌++◌, min, ℕ, List, length, ap, arith, sym, take, ◌∙◌}
 use Rattle.fw_check.specs.FrameLines.{frame_faults}
 use Rattle.fw_check.proofs.FrameLaws.{next_faults, shorter_faults}
-use Rattle.fw_check.proofs.Writes.{after_two}
+use Rattle.fw_check.proofs.Parts.{after_two}
 use Rattle.fw_check.proofs.frame_lines.put_frame_faults.Goals as goal
 
 pub loop-place-preserved : goal.loop-place-preserved

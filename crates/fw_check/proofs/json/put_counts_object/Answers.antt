@@ -1,6 +1,6 @@
 use Rattle.std.proofs.Common.{◌++◌, codes}
 use Rattle.fw_check.specs.Json.{counts_fields}
-use Rattle.fw_check.proofs.Writes.{after_two, two_parts}
+use Rattle.fw_check.proofs.Parts.{after_two, two_parts}
 use Rattle.fw_check.proofs.json.put_counts_object.Goals as goal
 
 pub returns : goal.returns

@@ -1,6 +1,6 @@
 use Rattle.std.proofs.Common.{codes}
 use Rattle.fw_check.specs.Json.{number_field}
-use Rattle.fw_check.proofs.Writes.{two_parts}
+use Rattle.fw_check.proofs.Parts.{two_parts}
 use Rattle.fw_check.proofs.json.put_forgotten_at.Goals as goal
 
 pub returns : goal.returns

@@ -1,7 +1,7 @@
 use Rattle.std.proofs.Common.{◌≡◌, ◌+◌, ◌++◌, ℕ, List, add-one, ap, arith, refl, sym, ◌∙◌}
 use Rattle.fw_check.specs.declared.options.CheckForm.{CheckForm}
 use Rattle.fw_check.specs.Summary.{ExchangeState, exchanges_of, rows_to, text_of_code}
-use Rattle.fw_check.proofs.Writes.{after_two}
+use Rattle.fw_check.proofs.Parts.{after_two}
 use Rattle.fw_check.proofs.rows.put_named_rows.Goals as goal
 
 next_row : (form : CheckForm) (e : ExchangeState) (n : ℕ) → rows_to form e (n + 1) ≡ rows_to form e n ++ text_of_code form e (n + 1)

@@ -1,7 +1,7 @@
 use Rattle.std.proofs.Common.{◌++◌, ap, codes, ◌∙◌}
 use Rattle.fw_check.specs.Json.{text_field}
 use Rattle.fw_check.specs.Summary.{counts_keys, name_of_code, times_keys}
-use Rattle.fw_check.proofs.Writes.{after_two, two_parts}
+use Rattle.fw_check.proofs.Parts.{after_two, two_parts}
 use Rattle.fw_check.proofs.rows.put_row_fields.Goals as goal
 
 pub returns : goal.returns

@@ -1,6 +1,6 @@
 use Rattle.std.proofs.Common.{◌++◌, ap, ◌∙◌}
 use Rattle.fw_check.specs.Summary.{exchanges_of, heading, rows_to, text_of_code}
-use Rattle.fw_check.proofs.Writes.{after_two, two_parts}
+use Rattle.fw_check.proofs.Parts.{after_two, two_parts}
 use Rattle.fw_check.proofs.rows.put_table.Goals as goal
 
 pub returns : goal.returns

@@ -3,7 +3,7 @@ use Rattle.fuse_sessions.specs.Counts.{forgets_of, gives_most}
 use Rattle.fuse_sessions.specs.OpenFiles.{opens_this, releases_this}
 use Rattle.fw_check.specs.Standing.{file_of, same_key}
 use Rattle.fw_check.proofs.StandingLaws.{step_of}
-use Rattle.fw_check.proofs.Writes.{OnOk-map}
+use Rattle.fuse_text.proofs.Writes.{OnOk-map}
 use Rattle.fw_check.proofs.standing.note_act.Goals as goal
 
 pub returns : goal.returns

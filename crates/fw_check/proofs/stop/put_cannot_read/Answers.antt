@@ -1,5 +1,5 @@
 use Rattle.std.proofs.Common.{codes}
-use Rattle.fw_check.proofs.Writes.{two_parts}
+use Rattle.fw_check.proofs.Parts.{two_parts}
 use Rattle.fw_check.proofs.stop.put_cannot_read.Goals as goal
 
 pub returns : goal.returns

@@ -1,4 +1,4 @@
-use Rattle.fw_check.proofs.Writes.{some_either}
+use Rattle.fuse_text.proofs.Writes.{some_either}
 use Rattle.fw_check.proofs.stop.say.Goals as goal
 
 pub returns : goal.returns

@@ -1,6 +1,6 @@
 use Rattle.std.proofs.Common.{refl}
 use Rattle.fw_drive.specs.Notes.{errno_words}
-use Rattle.fw_script.proofs.Writes.{OnErr-always, refused_then, some_first}
+use Rattle.fuse_text.proofs.Writes.{OnErr-always, refused_then, some_first}
 use Rattle.fw_drive.proofs.Texts.{taken_then}
 use Rattle.fw_drive.proofs.difference_words.print_answer.Goals as goal
 

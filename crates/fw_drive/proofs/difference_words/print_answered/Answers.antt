@@ -1,5 +1,5 @@
 use Rattle.std.proofs.Common.{codes, decimal, refl, ◌++◌}
-use Rattle.fw_script.proofs.Writes.{OnErr-always, refused_then, some_first}
+use Rattle.fuse_text.proofs.Writes.{OnErr-always, refused_then, some_first}
 use Rattle.fw_drive.proofs.Texts.{taken_then}
 use Rattle.fw_drive.proofs.difference_words.print_answered.Goals as goal
 

@@ -1,7 +1,7 @@
 use Rattle.std.proofs.Common.{◌++◌, ◌∙◌, List, ℕ, refl, subst, true}
 use Rattle.std.specs.Io.KnownBytes.{Appends}
 use Rattle.fk_syscalls.specs.declared.call.Answer.{Answer}
-use Rattle.fw_script.specs.Outputs.{AppendsSome}
+use Rattle.fuse_text.specs.Outputs.{AppendsSome}
 use Rattle.fw_script.specs.Records.{answer_words}
 use Rattle.fw_drive.specs.Notes.{answer_said, differs, errno_words}
 use Rattle.fw_drive.proofs.Texts.{answer_parts, difference_is, said_is, says_one, says_part}

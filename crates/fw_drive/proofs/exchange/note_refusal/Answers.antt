@@ -1,7 +1,7 @@
 use Rattle.fw_drive.specs.Notes.{notes_text}
 use Rattle.fw_drive.specs.Printed.{of_frame, refusal_text}
 use Rattle.fw_drive.specs.declared.stop.Stop.TheVariants as stops
-use Rattle.fw_script.proofs.Writes.{Appends-append}
+use Rattle.std.proofs.KnownBytes.{Appends-trans}
 use Rattle.fw_drive.proofs.Texts.{gets_more, gets_then_at}
 use Rattle.fw_drive.proofs.exchange.note_refusal.Goals as goal
 
@@ -21,7 +21,7 @@ returns-in-Ok-print_refused g c had told (own, said, all, tells) =
     let line = of_frame c.args.form (refusal_text g.row.A.Denot c.args.refusal) in (
       tt,
       said,
-      Appends-append had.0 (g.W.Write.contents c.args.out.now) (g.W.Write.contents c.print_refused.new.out) (notes_text said)
+      Appends-trans had.0 (g.W.Write.contents c.args.out.now) (g.W.Write.contents c.print_refused.new.out) (notes_text said)
           line (rw c.in-Ok.is at all) c.in-Ok-print_refused.ensures.ok,
       rw c.in-Ok.is at tells,
     )

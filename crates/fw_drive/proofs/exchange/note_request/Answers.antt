@@ -1,5 +1,5 @@
 use Rattle.std.proofs.Common.{◌++◌, ◌∙◌, length, refl}
-use Rattle.fw_script.proofs.Writes.{Appends-append}
+use Rattle.std.proofs.KnownBytes.{Appends-trans}
 use Rattle.fw_world.specs.declared.event.Outcome.TheVariants as outcome
 use Rattle.fw_drive.specs.Findings.{is_any_wrong}
 use Rattle.fw_drive.specs.Notes.{notes_text}
@@ -52,7 +52,7 @@ returns-in-Ok-collect_answers g c had (own, said, all, tells) =
       collects_given c.args.form (notes_text said ++ line) (is_any_wrong said) had (mid, c.note_sent.new.self.is_wrong)
           (g.W.Write.contents c.collect_answers.new.out, c.collect_answers.new.notes.is_wrong)
           c.args.driver.now c.collect_answers.new.driver _ _
-          (Appends-append had.0 noted mid (notes_text said) line (rw c.in-Ok.is at all) c.in-Ok-print_frame.ensures.ok)
+          (Appends-trans had.0 noted mid (notes_text said) line (rw c.in-Ok.is at all) c.in-Ok-print_frame.ensures.ok)
           (c.note_sent.ensures ∙ rw c.in-Ok.is at tells) (c.in-Ok-collect_answers.ensures c.args.form),
     )
 
@@ -69,7 +69,7 @@ returns-in-Err-collect_answers g c had (own, said, all, tells) =
       collects_failed c.args.form (notes_text said ++ line) (is_any_wrong said) had (mid, c.note_sent.new.self.is_wrong)
           (g.W.Write.contents c.collect_answers.new.out, c.collect_answers.new.notes.is_wrong)
           c.args.driver.now c.collect_answers.new.driver c.in-Err-collect_answers.stop
-          (Appends-append had.0 noted mid (notes_text said) line (rw c.in-Ok.is at all) c.in-Ok-print_frame.ensures.ok)
+          (Appends-trans had.0 noted mid (notes_text said) line (rw c.in-Ok.is at all) c.in-Ok-print_frame.ensures.ok)
           (c.in-Err-collect_answers.ensures c.args.form),
     )
 

@@ -1,7 +1,7 @@
 use Rattle.std.proofs.Common.{subst, sym}
 use Rattle.std.specs.Prelude.{OnErr, OnOk}
 use Rattle.std.specs.Io.KnownBytes.{Appends}
-use Rattle.fw_script.specs.Outputs.{AppendsSome}
+use Rattle.fuse_text.specs.Outputs.{AppendsSome}
 use Rattle.fw_drive.specs.Faults.{fault_words}
 use Rattle.fw_drive.specs.declared.fault.Fault.{Fault}
 use Rattle.fw_drive.proofs.fault_words.print_fault_words.Goals as goal

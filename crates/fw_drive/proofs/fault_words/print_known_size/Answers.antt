@@ -1,6 +1,6 @@
 use Rattle.std.proofs.Common.{List, ap, append_assoc, codes, decimal, ℕ, ◌++◌}
 use Rattle.fw_drive.specs.Faults.{right_words}
-use Rattle.fw_script.proofs.Writes.{OnErr-always, refused_then, some_first}
+use Rattle.fuse_text.proofs.Writes.{OnErr-always, refused_then, some_first}
 use Rattle.fw_drive.proofs.Texts.{taken_then}
 use Rattle.fw_drive.proofs.fault_words.print_known_size.Goals as goal
 

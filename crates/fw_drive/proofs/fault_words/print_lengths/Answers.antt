@@ -1,5 +1,5 @@
 use Rattle.std.proofs.Common.{codes, decimal, ◌++◌}
-use Rattle.fw_script.proofs.Writes.{OnErr-always, refused_then, some_first}
+use Rattle.fuse_text.proofs.Writes.{OnErr-always, refused_then, some_first}
 use Rattle.fw_drive.proofs.Texts.{five_parts, taken_then}
 use Rattle.fw_drive.proofs.fault_words.print_lengths.Goals as goal
 

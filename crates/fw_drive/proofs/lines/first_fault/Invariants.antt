@@ -1,6 +1,6 @@
 use Rattle.std.proofs.Common.{◌≡◌, ◌++◌, length, map}
 use Rattle.std.specs.Prelude.{All, option_copied}
-use Rattle.fw_script.specs.Scripts.{lines_left, lines_of}
+use Rattle.fuse_text.specs.Lines.{lines_left, lines_of}
 use Rattle.fw_drive.specs.DriveLines.{IsGoodDriveLine}
 use Rattle.fw_drive.proofs.lines.first_fault.Given as goal
 

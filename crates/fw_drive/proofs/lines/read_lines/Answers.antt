@@ -2,7 +2,7 @@ use Rattle.std.proofs.Common.{rules, ◌≡◌, ◌++◌, ◌∷◌, [], List, �
 use Rattle.std.specs.Prelude.{option_copied}
 use Rattle.std.proofs.lemmas.List.{length-map, map-append}
 use Rattle.std.proofs.lemmas.List.Elements.{All-push}
-use Rattle.fw_script.specs.Scripts.{lines_left}
+use Rattle.fuse_text.specs.Lines.{lines_left}
 use Rattle.fw_script.proofs.Numbering.{line_number_fits}
 use Rattle.fw_drive.specs.DriveLines.{IsGoodDriveLine}
 use Rattle.fw_drive.specs.Judging.{Say, no_more, passed_over, says}

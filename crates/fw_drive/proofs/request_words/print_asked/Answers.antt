@@ -1,6 +1,6 @@
 use Rattle.std.proofs.Common.{codes, decimal, refl, ◌++◌}
 use Rattle.fw_drive.specs.Faults.{asks_word}
-use Rattle.fw_script.proofs.Writes.{OnErr-always, refused_then, some_first}
+use Rattle.fuse_text.proofs.Writes.{OnErr-always, refused_then, some_first}
 use Rattle.fw_drive.proofs.Texts.{taken_then}
 use Rattle.fw_drive.proofs.request_words.print_asked.Goals as goal
 

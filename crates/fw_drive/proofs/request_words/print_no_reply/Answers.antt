@@ -1,6 +1,6 @@
 use Rattle.std.proofs.Common.{codes, refl, ◌++◌}
 use Rattle.fw_drive.specs.Faults.{unanswered_words}
-use Rattle.fw_script.proofs.Writes.{OnErr-always, refused_then, some_first}
+use Rattle.fuse_text.proofs.Writes.{OnErr-always, refused_then, some_first}
 use Rattle.fw_drive.proofs.Texts.{taken_then}
 use Rattle.fw_drive.proofs.request_words.print_no_reply.Goals as goal
 

@@ -1,7 +1,7 @@
 use Rattle.std.proofs.Common.{◌≡◌, ◌∙◌, ◌∷◌, [], ℕ, List, ap, inl, refl, sym}
 use Rattle.std.specs.Prelude.{codes, decimal}
 use Rattle.fk_syscalls.specs.declared.call.Call.TheVariants as call
-use Rattle.fw_frames.specs.HexTexts.{hex_or_none}
+use Rattle.fuse_text.specs.HexTexts.{hex_or_none}
 use Rattle.fw_script.specs.Lines.{spelled}
 use Rattle.fw_script.specs.declared.line.Line.TheVariants as lines
 use Rattle.fw_world.specs.declared.event.Event.TheVariants as event

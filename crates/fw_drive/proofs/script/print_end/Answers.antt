@@ -1,5 +1,5 @@
 use Rattle.std.proofs.Common.{◌++◌, codes}
-use Rattle.fw_script.proofs.Writes.{Appends-Keeps, Appends-append}
+use Rattle.std.proofs.KnownBytes.{Appends-kept, Appends-trans}
 use Rattle.fw_script.specs.Records.{nodes_text}
 use Rattle.fw_world.specs.Values.{counted_nodes}
 use Rattle.fw_drive.specs.Notes.{notes_text}
@@ -16,8 +16,8 @@ returns-in-Ok-print_count-clause-printed g c =
     let has = g.W.Write.contents c.flush.new.out in (
       said,
       gets_all c.flush.result had has (nodes ++ notes_text said)
-          (Appends-Keeps had counted has (nodes ++ notes_text said)
-          (Appends-append had shown counted nodes (notes_text said) c.in-Ok.ensures.printed all) c.flush.ensures.keeps),
+          (Appends-kept had counted has (nodes ++ notes_text said)
+          (Appends-trans had shown counted nodes (notes_text said) c.in-Ok.ensures.printed all) c.flush.ensures.keeps),
       right,
     )
 

@@ -2,7 +2,7 @@ use Rattle.std.proofs.Common.{◌≡◌, ◌∙◌, ap, sym, true}
 use Rattle.std.specs.List.{join_with_byte}
 use Rattle.std.proofs.lemmas.Bool.Decides.{Decides-eqb}
 use Rattle.std.proofs.lemmas.Slice.Eq.{slice_eq-Decides}
-use Rattle.fw_script.specs.Scripts.{lines_of}
+use Rattle.fuse_text.specs.Lines.{lines_of}
 use Rattle.fw_expand.specs.Expanding.{is_of_calls}
 use Rattle.fw_expand.specs.Scripts.{expandable_script}
 use Rattle.fw_expand.proofs.Texts.{is_other, is_script, lines_of_expandable}

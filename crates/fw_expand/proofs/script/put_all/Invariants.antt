@@ -1,6 +1,6 @@
 use Rattle.std.proofs.Common.{◌≡◌, ◌++◌, ◌∷◌, []}
 use Rattle.std.specs.Prelude.{flat_map, map, option_copied}
-use Rattle.fw_script.specs.Scripts.{lines_left}
+use Rattle.fuse_text.specs.Lines.{lines_left}
 use Rattle.fw_expand.specs.Scripts.{expandable_script, judged_line}
 use Rattle.fw_expand.proofs.script.put_all.Given as goal
 

@@ -1,5 +1,5 @@
 use Rattle.fw_frames.specs.Words.{attr_words, nodeid_words, valid_words}
-use Rattle.fw_frames.proofs.Writes.{Appends-three, OnOk-map}
+use Rattle.fuse_text.proofs.Writes.{Appends-three, OnOk-map}
 use Rattle.fw_frames.proofs.entry_words.write_found.Goals as goal
 
 pub returns : goal.returns

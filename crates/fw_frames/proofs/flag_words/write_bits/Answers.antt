@@ -1,6 +1,6 @@
 use Rattle.std.specs.Prelude.{codes}
 use Rattle.fw_frames.specs.Words.{flag_word}
-use Rattle.fw_frames.proofs.Writes.{Appends-four, OnOk-map}
+use Rattle.fuse_text.proofs.Writes.{Appends-four, OnOk-map}
 use Rattle.fw_frames.proofs.flag_words.write_bits.Goals as goal
 
 pub returns : goal.returns

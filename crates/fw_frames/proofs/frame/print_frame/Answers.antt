@@ -1,5 +1,6 @@
 use Rattle.std.proofs.Common.{inl, inr}
-use Rattle.fw_frames.proofs.Writes.{Appends-Keeps, OnOk-always}
+use Rattle.std.proofs.KnownBytes.{Appends-kept}
+use Rattle.fuse_text.proofs.Writes.{OnOk-always}
 use Rattle.fw_frames.proofs.frame.print_frame.Goals as goal
 
 pub returns : goal.returns
@@ -9,13 +10,13 @@ returns g c =
       | inl request ↦ inl (
         request.0,
         request.1,
-        Appends-Keeps _
+        Appends-kept _
             (g.W.Write.contents c.write_frame.new.out) _ _ request.2 c.flush.ensures.bytes,
       )
       | inr fault ↦ inr (
         fault.0,
         fault.1,
-        Appends-Keeps _
+        Appends-kept _
             (g.W.Write.contents c.write_frame.new.out) _ _ fault.2 c.flush.ensures.bytes,
       )
     ])

@@ -1,6 +1,6 @@
 use Rattle.std.proofs.Common.{inl}
 use Rattle.fk_wire.specs.Requests.{request_message}
-use Rattle.fw_frames.proofs.Writes.{OnOk-map}
+use Rattle.fuse_text.proofs.Writes.{OnOk-map}
 use Rattle.fw_frames.proofs.frame.write_frame.Goals as goal
 
 pub returns-in-Ok : goal.returns-in-Ok

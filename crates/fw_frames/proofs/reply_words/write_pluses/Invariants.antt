@@ -1,6 +1,6 @@
 use Rattle.fk_wire.specs.Records.{pluses_in}
 use Rattle.fw_frames.specs.Words.{direntplus_words}
-use Rattle.fw_frames.proofs.Writes.{Left}
+use Rattle.fuse_text.proofs.Writes.{Left}
 use Rattle.fw_frames.proofs.reply_words.write_pluses.Given as goal
 
 abbrev pub invariant-loop-pair : goal.invariant-loop-pair

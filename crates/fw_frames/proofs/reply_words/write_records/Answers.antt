@@ -1,7 +1,7 @@
 use Rattle.std.proofs.Common.{◌≡◌, ◌∷◌}
 use Rattle.fk_wire.specs.Records.{dirent_content, records_in}
 use Rattle.fw_frames.specs.Words.{dirent_words}
-use Rattle.fw_frames.proofs.Writes.{Left, none_done, one_more, all_done}
+use Rattle.fuse_text.proofs.Writes.{Left, none_done, one_more, all_done}
 use Rattle.fw_frames.proofs.reply_words.write_records.Goals as goal
 
 pub loop-dirent-init : goal.loop-dirent-init

@@ -1,6 +1,6 @@
 use Rattle.fk_wire.specs.Records.{records_in}
 use Rattle.fw_frames.specs.Words.{dirent_words}
-use Rattle.fw_frames.proofs.Writes.{Left}
+use Rattle.fuse_text.proofs.Writes.{Left}
 use Rattle.fw_frames.proofs.reply_words.write_records.Given as goal
 
 abbrev pub invariant-loop-dirent : goal.invariant-loop-dirent

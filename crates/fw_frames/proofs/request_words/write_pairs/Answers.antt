@@ -1,7 +1,7 @@
 use Rattle.std.proofs.Common.{◌≡◌, ◌∷◌, ℕ}
 use Rattle.fk_wire.specs.Pairs.{pairs_in}
 use Rattle.fw_frames.specs.Words.{pair_words}
-use Rattle.fw_frames.proofs.Writes.{Left, none_done, one_more, all_done}
+use Rattle.fuse_text.proofs.Writes.{Left, none_done, one_more, all_done}
 use Rattle.fw_frames.proofs.request_words.write_pairs.Goals as goal
 
 pub loop-nodeid-init : goal.loop-nodeid-init

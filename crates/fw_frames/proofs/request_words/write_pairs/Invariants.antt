@@ -1,6 +1,6 @@
 use Rattle.fk_wire.specs.Pairs.{pairs_in}
 use Rattle.fw_frames.specs.Words.{pair_words}
-use Rattle.fw_frames.proofs.Writes.{Left}
+use Rattle.fuse_text.proofs.Writes.{Left}
 use Rattle.fw_frames.proofs.request_words.write_pairs.Given as goal
 
 abbrev pub invariant-loop-nodeid : goal.invariant-loop-nodeid

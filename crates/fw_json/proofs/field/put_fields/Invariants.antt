@@ -1,6 +1,6 @@
 use Rattle.std.proofs.Common.{◌≡◌, ◌++◌, ℕ, List, Some, drop, option_copied}
 use Rattle.std.specs.Fmt.{option_append}
-use Rattle.fw_script.specs.Words.{words_left}
+use Rattle.fuse_text.specs.Words.{words_left}
 use Rattle.fw_json.specs.Fields.{fields}
 use Rattle.fw_json.proofs.field.put_fields.Given as goal
 

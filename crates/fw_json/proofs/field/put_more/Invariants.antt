@@ -1,7 +1,7 @@
 use Rattle.std.proofs.Common.{◌≡◌, ◌++◌}
 use Rattle.std.specs.Prelude.{option_copied}
 use Rattle.fw_json.specs.Fields.{more_listed}
-use Rattle.fw_script.specs.Words.{words_left}
+use Rattle.fuse_text.specs.Words.{words_left}
 use Rattle.fw_json.proofs.field.put_more.Given as goal
 
 -- what was put, and what is left to put

@@ -1,6 +1,6 @@
 use Rattle.std.proofs.Common.{◌∙◌, ℕ, Bool, List, Option, ap, sym, subst, codes}
 use Rattle.std.specs.Prelude.{option_copied, option_map}
-use Rattle.fw_script.specs.Words.{words_left}
+use Rattle.fuse_text.specs.Words.{words_left}
 use Rattle.fw_json.specs.Events.{list_key_of}
 use Rattle.fw_json.specs.Fields.{fields}
 use Rattle.fw_json.specs.Objects.{event_object, head, object, words_object}

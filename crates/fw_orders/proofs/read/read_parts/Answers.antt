@@ -1,7 +1,8 @@
 use Rattle.std.proofs.Common.{rules, ◌≡◌, ◌+◌, ◌<◌, ◌++◌, ◌∷◌, [], List, ℕ, Bor, length, map, refl, ap, sym, subst, arith, append_assoc, length-append, ◌∙◌}
 use Rattle.std.specs.Prelude.{option_copied}
 use Rattle.std.proofs.lemmas.List.{length-map, map-append}
-use Rattle.fw_script.specs.Scripts.{IsPassedOver, lines_left}
+use Rattle.fw_script.specs.Scripts.{IsPassedOver}
+use Rattle.fuse_text.specs.Lines.{lines_left}
 use Rattle.fw_script.proofs.Numbering.{line_number_fits}
 use Rattle.order_law.specs.Moments.{Part}
 use Rattle.fw_orders.specs.FileLines.{HaveParts, Make, beyond, no_more, no_part}

@@ -1,6 +1,6 @@
 use Rattle.std.proofs.Common.{◌≡◌, ◌++◌, length, map}
 use Rattle.std.specs.Prelude.{option_copied}
-use Rattle.fw_script.specs.Scripts.{lines_left, lines_of}
+use Rattle.fuse_text.specs.Lines.{lines_left, lines_of}
 use Rattle.fw_orders.specs.FileLines.{HaveParts}
 use Rattle.fw_orders.specs.Saying.{parts_of}
 use Rattle.fw_orders.proofs.read.read_parts.Given as goal

@@ -1,5 +1,6 @@
 use Rattle.std.proofs.Common.{rules, ◌≡◌, ◌++◌, codes, refl}
-use Rattle.fw_script.proofs.Writes.{Appends-append, OnErr-always, OnOk-map, refused_then, some_first}
+use Rattle.std.proofs.KnownBytes.{Appends-trans}
+use Rattle.fuse_text.proofs.Writes.{OnErr-always, OnOk-map, refused_then, some_first}
 use Rattle.fw_orders.specs.Stops.{fault_words, line_head}
 use Rattle.fw_orders.proofs.stop.write_bad_line.Goals as goal
 
@@ -18,5 +19,5 @@ pub returns-clause-ok : goal.returns-clause-ok
 returns-clause-ok g c =
     let same : c.as_bytes.result.now ≡ fault_words c.args.fault = search rules in
     OnOk-map _ _ c.write_words.result
-    (λ wrote. Appends-append _ _ _ (line_head c.args.number) (fault_words c.args.fault ++ codes "\n")
+    (λ wrote. Appends-trans _ _ _ (line_head c.args.number) (fault_words c.args.fault ++ codes "\n")
     c.in_ok-write_head.ensures.ok wrote) (rw same at c.write_words.ensures.ok)

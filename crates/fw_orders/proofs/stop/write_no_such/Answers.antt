@@ -1,6 +1,7 @@
 use Rattle.std.proofs.Common.{◌++◌, append_assoc, codes}
 use Rattle.std.specs.Prelude.{decimal}
-use Rattle.fw_script.proofs.Writes.{Appends-append, OnOk-map, refused_1, refused_2, refused_3}
+use Rattle.std.proofs.KnownBytes.{Appends-trans}
+use Rattle.fuse_text.proofs.Writes.{OnOk-map, refused_1, refused_2, refused_3}
 use Rattle.fw_orders.proofs.stop.write_no_such.Goals as goal
 
 pub returns-in_err-write_text-clause-refused : goal.returns-in_err-write_text-clause-refused
@@ -26,7 +27,7 @@ pub returns-clause-ok : goal.returns-clause-ok
 returns-clause-ok g c =
     let digits = decimal c.args.orders in
     OnOk-map _ _ c.write_text-2.result
-    (λ wrote. Appends-append _ _ _ (codes "no such order: there are " ++ digits) (codes "\n")
-    (Appends-append _ _ _ (codes "no such order: there are ") digits c.in_ok-write_text.ensures.ok
+    (λ wrote. Appends-trans _ _ _ (codes "no such order: there are " ++ digits) (codes "\n")
+    (Appends-trans _ _ _ (codes "no such order: there are ") digits c.in_ok-write_text.ensures.ok
     c.in_ok-write_number.ensures.ok) wrote)
     c.write_text-2.ensures.ok

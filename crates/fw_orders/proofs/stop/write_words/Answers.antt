@@ -1,5 +1,5 @@
 use Rattle.std.proofs.Common.{codes, refl}
-use Rattle.fw_script.proofs.Writes.{OnErr-always, refused_then, some_first}
+use Rattle.fuse_text.proofs.Writes.{OnErr-always, refused_then, some_first}
 use Rattle.fw_orders.proofs.stop.write_words.Goals as goal
 
 pub returns-in_err-write_text-clause-refused : goal.returns-in_err-write_text-clause-refused

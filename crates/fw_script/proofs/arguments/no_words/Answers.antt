@@ -1,5 +1,5 @@
 use Rattle.std.proofs.Common.{arith}
-use Rattle.fw_script.proofs.Splitting.{words_of_some}
+use Rattle.fuse_text.proofs.Splitting.{words_of_some}
 use Rattle.fw_script.proofs.arguments.no_words.Goals as goal
 
 pub returns-in-Some : goal.returns-in-Some

@@ -1,5 +1,5 @@
 use Rattle.std.proofs.Common.{◌∙◌, ◌∷◌, [], ℕ, List, ap, arith}
-use Rattle.fw_script.proofs.Splitting.{number_is_one_word, one_word_is_all}
+use Rattle.fuse_text.proofs.Splitting.{number_is_one_word, one_word_is_all}
 use Rattle.fw_script.proofs.arguments.one_number.Goals as goal
 
 pub returns-in-Some-read_number : goal.returns-in-Some-read_number

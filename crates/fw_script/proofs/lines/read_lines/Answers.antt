@@ -4,7 +4,8 @@ use Rattle.std.proofs.lemmas.List.{length-map, map-append}
 use Rattle.std.proofs.lemmas.List.Elements.{All-push}
 use Rattle.fw_script.specs.Lines.{IsWritten}
 use Rattle.fw_script.specs.Running.{Say, no_more}
-use Rattle.fw_script.specs.Scripts.{IsGoodLine, lines_left}
+use Rattle.fw_script.specs.Scripts.{IsGoodLine}
+use Rattle.fuse_text.specs.Lines.{lines_left}
 use Rattle.fw_script.proofs.Numbering.{line_number_fits}
 use Rattle.fw_script.specs.declared.line.Line.{Line}
 use Rattle.fw_script.proofs.Saying.{Say-more, Say-over}

@@ -2,7 +2,8 @@ use Rattle.std.proofs.Common.{◌≡◌, ◌++◌, length, map}
 use Rattle.std.specs.Prelude.{All, option_copied}
 use Rattle.fw_script.specs.Lines.{IsWritten}
 use Rattle.fw_script.specs.Running.{Say}
-use Rattle.fw_script.specs.Scripts.{IsGoodLine, lines_left, lines_of}
+use Rattle.fw_script.specs.Scripts.{IsGoodLine}
+use Rattle.fuse_text.specs.Lines.{lines_left, lines_of}
 use Rattle.fw_script.proofs.lines.read_lines.Given as goal
 
 abbrev pub invariant-loop-line : goal.invariant-loop-line

@@ -2,7 +2,8 @@ use Rattle.std.proofs.Common.{◌++◌, ◌∷◌, [], List, ℕ, Bor, map, ap, 
 use Rattle.std.specs.Prelude.{option_copied}
 use Rattle.std.proofs.lemmas.List.{length-map, map-append}
 use Rattle.std.proofs.lemmas.List.Elements.{All-push}
-use Rattle.fw_script.specs.Scripts.{IsGoodLine, lines_left}
+use Rattle.fw_script.specs.Scripts.{IsGoodLine}
+use Rattle.fuse_text.specs.Lines.{lines_left}
 use Rattle.fw_script.proofs.Numbering.{line_number_fits}
 use Rattle.fw_script.proofs.lines.refused_lines.Goals as goal
 

@@ -1,6 +1,7 @@
 use Rattle.std.proofs.Common.{◌≡◌, ◌++◌, length, map}
 use Rattle.std.specs.Prelude.{All, option_copied}
-use Rattle.fw_script.specs.Scripts.{IsGoodLine, lines_left, lines_of}
+use Rattle.fw_script.specs.Scripts.{IsGoodLine}
+use Rattle.fuse_text.specs.Lines.{lines_left, lines_of}
 use Rattle.fw_script.proofs.lines.refused_lines.Given as goal
 
 abbrev pub invariant-loop-line : goal.invariant-loop-line

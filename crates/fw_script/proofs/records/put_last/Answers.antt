@@ -1,5 +1,5 @@
 use Rattle.std.proofs.Common.{◌++◌, refl}
-use Rattle.fw_script.proofs.Writes.{OnErr-always, some_first}
+use Rattle.fuse_text.proofs.Writes.{OnErr-always, some_first}
 use Rattle.fw_script.proofs.records.put_last.Goals as goal
 
 pub returns-in_err-make_room-clause-refused : goal.returns-in_err-make_room-clause-refused

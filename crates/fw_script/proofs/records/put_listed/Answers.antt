@@ -2,10 +2,10 @@ use Rattle.std.proofs.Common.{rules, ◌≡◌, ◌++◌, ◌∙◌, ℕ, List, 
 use Rattle.fk_syscalls.specs.Listings.{listed_dirent}
 use Rattle.fuse_spec.specs.Files.Operations.{Dirent}
 use Rattle.fw_script.specs.Chunks.{AppendsBut}
-use Rattle.fw_script.specs.Outputs.{AppendsSome}
+use Rattle.fuse_text.specs.Outputs.{AppendsSome}
 use Rattle.fw_script.specs.Records.{kind_word, listed_words, shown_byte}
 use Rattle.fw_script.proofs.Names.{map_kept}
-use Rattle.fw_script.proofs.Writes.{listed_parts}
+use Rattle.fw_script.proofs.AnswerParts.{listed_parts}
 use Rattle.fw_script.proofs.records.put_listed.Goals as goal
 
 -- a name that is shown as it is

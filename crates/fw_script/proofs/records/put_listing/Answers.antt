@@ -3,7 +3,7 @@ use Rattle.std.specs.Prelude.{flat_map}
 use Rattle.fk_syscalls.specs.Listings.{listed_dirent, names_left_in}
 use Rattle.fw_script.specs.Records.{listed_words}
 use Rattle.fw_script.proofs.Chunked.{Pending, one_put, some_put}
-use Rattle.fw_script.proofs.Writes.{OnErr-always}
+use Rattle.fuse_text.proofs.Writes.{OnErr-always}
 use Rattle.fw_script.proofs.records.put_listing.Goals as goal
 
 pub loop-listed-preserved : goal.loop-listed-preserved

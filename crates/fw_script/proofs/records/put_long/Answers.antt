@@ -4,7 +4,8 @@ use Rattle.fk_syscalls.specs.Listings.{listed_dirent}
 use Rattle.fw_script.specs.Chunks.{AppendsBut}
 use Rattle.fw_script.specs.Records.{listed_words}
 use Rattle.fw_script.proofs.Chunked.{but_none}
-use Rattle.fw_script.proofs.Writes.{Appends-append, OnErr-always, OnOk-map, refused_then, some_first}
+use Rattle.std.proofs.KnownBytes.{Appends-trans}
+use Rattle.fuse_text.proofs.Writes.{OnErr-always, OnOk-map, refused_then, some_first}
 use Rattle.fw_script.proofs.records.put_long.Goals as goal
 
 pub returns-in_err-write_chunk-clause-refused : goal.returns-in_err-write_chunk-clause-refused
@@ -24,7 +25,7 @@ returns-clause-ok g c =
     let new = now c.write_long.new.out in
     OnOk-map (Appends mid new words) (AppendsBut old new (held ++ words) c.write_chunk.new.chunk) c.write_long.result
     (λ wrote. but_none old new (held ++ words) c.write_chunk.new.chunk c.in_ok-write_chunk.ensures.empty
-    (Appends-append old mid new held words c.in_ok-write_chunk.ensures.ok wrote)) c.write_long.ensures.ok
+    (Appends-trans old mid new held words c.in_ok-write_chunk.ensures.ok wrote)) c.write_long.ensures.ok
 
 pub returns-clause-refused : goal.returns-clause-refused
 returns-clause-refused g c =

@@ -1,5 +1,5 @@
 use Rattle.fw_script.specs.Records.{record_text}
-use Rattle.fw_script.proofs.Writes.{OnErr-always, some_within_item}
+use Rattle.fuse_text.proofs.Writes.{OnErr-always, some_within_item}
 use Rattle.fw_script.proofs.records.write_answers.Goals as goal
 
 pub returns-in_err-write_record-clause-refused : goal.returns-in_err-write_record-clause-refused

@@ -1,6 +1,7 @@
 use Rattle.std.proofs.Common.{◌++◌, codes, decimal}
-use Rattle.fw_frames.specs.HexTexts.{hex_or_none}
-use Rattle.fw_script.proofs.Writes.{answer_parts, refused_1, refused_2, refused_3}
+use Rattle.fuse_text.specs.HexTexts.{hex_or_none}
+use Rattle.fw_script.proofs.AnswerParts.{answer_parts}
+use Rattle.fuse_text.proofs.Writes.{refused_1, refused_2, refused_3}
 use Rattle.fw_script.proofs.records.write_content.Goals as goal
 
 pub returns-in_err-write_start-clause-refused : goal.returns-in_err-write_start-clause-refused

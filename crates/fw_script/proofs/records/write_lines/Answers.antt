@@ -1,7 +1,7 @@
 use Rattle.std.proofs.Common.{append_assoc}
 use Rattle.std.specs.Prelude.{flat_map, option_copied}
 use Rattle.fw_script.specs.Records.{put_text, record_text}
-use Rattle.fw_script.proofs.Writes.{refused_1, refused_2, refused_3}
+use Rattle.fuse_text.proofs.Writes.{refused_1, refused_2, refused_3}
 use Rattle.fw_script.proofs.records.write_lines.Goals as goal
 
 pub returns-in_err-write_first-clause-refused : goal.returns-in_err-write_first-clause-refused

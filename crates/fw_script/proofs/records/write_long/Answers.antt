@@ -2,7 +2,8 @@ use Rattle.std.proofs.Common.{◌≡◌, ◌++◌, codes, decimal, map}
 use Rattle.fk_syscalls.specs.Listings.{listed_dirent}
 use Rattle.fuse_spec.specs.Files.Operations.{Dirent}
 use Rattle.fw_script.specs.Records.{kind_word, listed_words, shown_byte}
-use Rattle.fw_script.proofs.Writes.{listed_parts, refused_1, refused_2, refused_3}
+use Rattle.fw_script.proofs.AnswerParts.{listed_parts}
+use Rattle.fuse_text.proofs.Writes.{refused_1, refused_2, refused_3}
 use Rattle.fw_script.proofs.records.write_long.Goals as goal
 
 parts : (d : Dirent)

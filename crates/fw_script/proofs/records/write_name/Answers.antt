@@ -1,8 +1,8 @@
 use Rattle.std.proofs.Common.{ℕ, [], ◌∷◌, refl, subst}
 use Rattle.fw_script.specs.Records.{shown_byte}
-use Rattle.fw_script.specs.Outputs.{AppendsSome}
+use Rattle.fuse_text.specs.Outputs.{AppendsSome}
 use Rattle.fw_script.proofs.Names.{map_kept}
-use Rattle.fw_script.proofs.Writes.{OnErr-always, some_within_map}
+use Rattle.fuse_text.proofs.Writes.{OnErr-always, some_within_map}
 use Rattle.fw_script.proofs.records.write_name.Goals as goal
 
 pub returns-then-is_shown_as_is : goal.returns-then-is_shown_as_is

@@ -1,10 +1,10 @@
 use Rattle.std.proofs.Common.{◌≡◌, ◌++◌, ℕ, List, append_assoc, codes, decimal, subst, sym}
 use Rattle.std.specs.Prelude.{flat_map}
 use Rattle.std.specs.Io.KnownBytes.{Appends}
-use Rattle.fw_script.specs.Outputs.{AppendsSome}
+use Rattle.fuse_text.specs.Outputs.{AppendsSome}
 use Rattle.fw_script.specs.Records.{listed_words}
 use Rattle.fw_script.proofs.Chunked.{but_more, but_refused, but_then, but_written}
-use Rattle.fw_script.proofs.Writes.{OnErr-always, OnErr-map, OnOk-map, some_first}
+use Rattle.fuse_text.proofs.Writes.{OnErr-always, OnErr-map, OnOk-map, some_first}
 use Rattle.fw_script.proofs.records.write_names.Goals as goal
 
 shape : (a d s z w e : List ℕ) → ((a ++ d ++ (s ++ z)) ++ w) ++ e ≡ a ++ d ++ s ++ (z ++ w) ++ e

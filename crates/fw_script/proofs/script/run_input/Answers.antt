@@ -1,6 +1,7 @@
 use Rattle.std.proofs.Common.{List, ℕ, Result, subst, sym}
 use Rattle.fw_script.specs.Running.{InputEnds, JudgingEnds, RunEnds, Say}
-use Rattle.fw_script.specs.Scripts.{IsRunOf, lines_of}
+use Rattle.fw_script.specs.Scripts.{IsRunOf}
+use Rattle.fuse_text.specs.Lines.{lines_of}
 use Rattle.fw_script.specs.declared.line.Line.{Line}
 use Rattle.fw_script.specs.declared.stop.Stop.{Stop}
 use Rattle.fw_script.proofs.Ending.{judged_ends, ran_ends, unread_ends}

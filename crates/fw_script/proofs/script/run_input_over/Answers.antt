@@ -1,6 +1,7 @@
 use Rattle.std.proofs.Common.{Bool, List, ℕ, Result, subst, sym}
 use Rattle.fw_script.specs.Running.{IsEither, JudgingEnds, OverEnds, Say, SessionEnds}
-use Rattle.fw_script.specs.Scripts.{IsRunOver, lines_of}
+use Rattle.fw_script.specs.Scripts.{IsRunOver}
+use Rattle.fuse_text.specs.Lines.{lines_of}
 use Rattle.fw_script.specs.declared.line.Line.{Line}
 use Rattle.fw_script.specs.declared.stop.Stop.{Stop}
 use Rattle.fw_script.proofs.Ending.{judged_ends, ran_over_ends, unread_ends}

@@ -1,7 +1,7 @@
 use Rattle.std.proofs.Common.{subst}
 use Rattle.fw_script.specs.Lines.{LineHasWords}
 use Rattle.fw_script.specs.Scripts.{LineSaysEvent, SaysShow}
-use Rattle.fw_script.specs.Words.{words_of}
+use Rattle.fuse_text.specs.Words.{words_of}
 use Rattle.fw_script.specs.declared.line.Line.{Line}
 use Rattle.fw_script.proofs.Stepping.{line_map}
 use Rattle.fw_script.proofs.script.run_line.Goals as goal

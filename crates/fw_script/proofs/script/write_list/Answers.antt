@@ -1,5 +1,5 @@
 use Rattle.fw_script.specs.Records.{node_words}
-use Rattle.fw_script.proofs.Writes.{OnErr-always, some_within}
+use Rattle.fuse_text.proofs.Writes.{OnErr-always, some_within}
 use Rattle.fw_script.proofs.script.write_list.Goals as goal
 
 pub returns-in_err-write_node-clause-refused : goal.returns-in_err-write_node-clause-refused

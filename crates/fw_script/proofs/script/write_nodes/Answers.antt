@@ -1,7 +1,7 @@
 use Rattle.std.proofs.Common.{append_assoc, codes}
 use Rattle.std.specs.Prelude.{flat_map}
 use Rattle.fw_script.specs.Records.{node_words}
-use Rattle.fw_script.proofs.Writes.{refused_1, refused_2, refused_3}
+use Rattle.fuse_text.proofs.Writes.{refused_1, refused_2, refused_3}
 use Rattle.fw_script.proofs.script.write_nodes.Goals as goal
 
 pub returns-in_err-write_text-clause-refused : goal.returns-in_err-write_text-clause-refused

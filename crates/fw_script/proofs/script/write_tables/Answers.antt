@@ -1,6 +1,6 @@
 use Rattle.std.proofs.Common.{codes, refl}
 use Rattle.fw_script.specs.Records.{nodes_text}
-use Rattle.fw_script.proofs.Writes.{OnErr-always, refused_then, some_first}
+use Rattle.fuse_text.proofs.Writes.{OnErr-always, refused_then, some_first}
 use Rattle.fw_script.proofs.script.write_tables.Goals as goal
 
 pub returns-in_err-write_nodes-clause-refused : goal.returns-in_err-write_nodes-clause-refused

@@ -1,6 +1,7 @@
 use Rattle.std.proofs.Common.{rules, ◌≡◌, append_assoc, codes, subst, ◌++◌, ℕ, List}
 use Rattle.std.specs.Io.KnownBytes.{Appends}
-use Rattle.fw_script.proofs.Writes.{Appends-append, OnOk-map, refused_1, refused_2, refused_3}
+use Rattle.std.proofs.KnownBytes.{Appends-trans}
+use Rattle.fuse_text.proofs.Writes.{OnOk-map, refused_1, refused_2, refused_3}
 use Rattle.fw_script.proofs.stop.write_unreadable.Goals as goal
 
 parts : (name bytes : List ℕ) → bytes ≡ name
@@ -35,6 +36,6 @@ returns-clause-ok g c =
     OnOk-map _ _ c.write_text-3.result
     (λ wrote.
     subst (λ (n : List ℕ). Appends old new (codes "cannot read " ++ n ++ codes "\n")) same
-    (Appends-append _ _ _ (codes "cannot read " ++ bytes) (codes "\n")
-    (Appends-append _ _ _ (codes "cannot read ") bytes c.in_ok-write_text.ensures.ok c.in_ok-write_text-2.ensures.ok) wrote))
+    (Appends-trans _ _ _ (codes "cannot read " ++ bytes) (codes "\n")
+    (Appends-trans _ _ _ (codes "cannot read ") bytes c.in_ok-write_text.ensures.ok c.in_ok-write_text-2.ensures.ok) wrote))
     c.write_text-3.ensures.ok

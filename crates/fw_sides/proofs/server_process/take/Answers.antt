@@ -1,7 +1,7 @@
 use Rattle.std.proofs.Common.{◌++◌, ◌∙◌, ap, sym}
 use Rattle.std.specs.Prelude.{codes}
 use Rattle.std.proofs.lemmas.Result.{on_ok_weaker}
-use Rattle.fw_frames.specs.HexTexts.{hex_or_none}
+use Rattle.fuse_text.specs.HexTexts.{hex_or_none}
 use Rattle.fs_server.specs.declared.step.ServerEvent.TheVariants as events
 use Rattle.fw_sides.specs.ServerRuns.{event, nothing}
 use Rattle.fw_sides.proofs.Outputs.{whatever}

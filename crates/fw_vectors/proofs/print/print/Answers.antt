@@ -1,4 +1,4 @@
-use Rattle.fw_frames.proofs.Writes.{OnOk-always}
+use Rattle.fuse_text.proofs.Writes.{OnOk-always}
 use Rattle.fw_vectors.proofs.Printed.{prints_kept}
 use Rattle.fw_vectors.proofs.print.print.Goals as goal
 

@@ -2,7 +2,7 @@ use Rattle.std.proofs.Common.{◌++◌}
 use Rattle.std.specs.Prelude.{codes}
 use Rattle.fk_wire.specs.Entries.{entry_content}
 use Rattle.fk_wire.specs.Records.{dirent_content}
-use Rattle.fw_frames.proofs.Writes.{Appends-three, OnOk-map}
+use Rattle.fuse_text.proofs.Writes.{Appends-three, OnOk-map}
 use Rattle.fw_vectors.specs.Members.{dirent_object, entry_object}
 use Rattle.fw_vectors.proofs.reply_members.write_direntplus.Goals as goal
 

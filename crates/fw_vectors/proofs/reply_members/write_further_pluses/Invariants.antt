@@ -1,6 +1,6 @@
 use Rattle.fk_wire.specs.Records.{pluses_in}
 use Rattle.fw_vectors.specs.Members.{further, direntplus_object}
-use Rattle.fw_frames.proofs.Writes.{Left}
+use Rattle.fuse_text.proofs.Writes.{Left}
 use Rattle.fw_vectors.proofs.reply_members.write_further_pluses.Given as goal
 
 abbrev pub invariant-loop-pair : goal.invariant-loop-pair

@@ -1,6 +1,6 @@
 use Rattle.std.specs.Prelude.{codes}
 use Rattle.fk_wire.specs.Records.{records_in}
-use Rattle.fw_frames.proofs.Writes.{Appends-three, OnOk-map}
+use Rattle.fuse_text.proofs.Writes.{Appends-three, OnOk-map}
 use Rattle.fw_vectors.specs.Members.{dirent_object, comma_list}
 use Rattle.fw_vectors.proofs.reply_members.write_listing.Goals as goal
 

@@ -1,6 +1,6 @@
 use Rattle.fk_wire.specs.Pairs.{pairs_in}
 use Rattle.fw_vectors.specs.Members.{further, pair_object}
-use Rattle.fw_frames.proofs.Writes.{Left}
+use Rattle.fuse_text.proofs.Writes.{Left}
 use Rattle.fw_vectors.proofs.request_members.write_further_pairs.Given as goal
 
 abbrev pub invariant-loop-nodeid : goal.invariant-loop-nodeid

@@ -1,6 +1,6 @@
 use Rattle.std.specs.Prelude.{codes}
 use Rattle.fk_wire.specs.Replies.{reply_content}
-use Rattle.fw_frames.proofs.Writes.{Appends-three, OnOk-map}
+use Rattle.fuse_text.proofs.Writes.{Appends-three, OnOk-map}
 use Rattle.fw_vectors.specs.Members.{reply_members}
 use Rattle.fw_vectors.specs.Vectors.{reply_start}
 use Rattle.fw_vectors.proofs.vector_line.write_reply.Goals as goal

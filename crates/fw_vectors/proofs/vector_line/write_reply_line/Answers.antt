@@ -1,7 +1,7 @@
 use Rattle.std.proofs.Common.{◌++◌, refl}
 use Rattle.std.specs.Prelude.{codes, decimal}
 use Rattle.fk_wire.specs.Opcodes.{code_of}
-use Rattle.fw_frames.proofs.Writes.{Appends-three, OnOk-map}
+use Rattle.fuse_text.proofs.Writes.{Appends-three, OnOk-map}
 use Rattle.fw_vectors.specs.Vectors.{frame_members, reply_line}
 use Rattle.fw_vectors.proofs.vector_line.write_reply_line.Goals as goal
 

@@ -1,6 +1,6 @@
 use Rattle.std.proofs.Common.{inl, refl}
 use Rattle.fk_wire.specs.Replies.{reply_message}
-use Rattle.fw_frames.proofs.Writes.{OnOk-map}
+use Rattle.fuse_text.proofs.Writes.{OnOk-map}
 use Rattle.fw_vectors.specs.Vectors.{reply_verdict}
 use Rattle.fw_vectors.proofs.vector_line.write_reply_verdict.Goals as goal
 

@@ -1,6 +1,6 @@
 use Rattle.std.proofs.Common.{◌++◌, refl}
 use Rattle.std.specs.Prelude.{codes}
-use Rattle.fw_frames.proofs.Writes.{Appends-three, OnOk-map}
+use Rattle.fuse_text.proofs.Writes.{Appends-three, OnOk-map}
 use Rattle.fw_vectors.specs.Vectors.{frame_members, opcode_word, request_vector_line}
 use Rattle.fw_vectors.proofs.vector_line.write_request_line.Goals as goal
 

@@ -1,5 +1,5 @@
 use Rattle.std.specs.Prelude.{codes}
-use Rattle.fw_frames.proofs.Writes.{Appends-three, OnOk-map}
+use Rattle.fuse_text.proofs.Writes.{Appends-three, OnOk-map}
 use Rattle.fw_vectors.specs.Vectors.{frame_members, opcode_word}
 use Rattle.fw_vectors.proofs.vector_line.write_request_start.Goals as goal
 

@@ -1,6 +1,6 @@
 use Rattle.std.proofs.Common.{[]}
 use Rattle.fw_check.proofs.CheckLaws.{line_passed_over, line_said, time_said}
-use Rattle.fw_check.proofs.Writes.{Appends-nil}
+use Rattle.std.proofs.KnownBytes.{Appends-nil}
 use Rattle.fw_check.proofs.checker.Checker.check_line.Goals as goal
 
 pub returns-in-Ok-None : goal.returns-in-Ok-None

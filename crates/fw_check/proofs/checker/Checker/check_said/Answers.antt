@@ -1,6 +1,6 @@
 use Rattle.std.proofs.Common.{subst, ◌∙◌}
 use Rattle.std.specs.Io.KnownBytes.{Appends}
-use Rattle.fw_check.specs.Outputs.{AppendsSome}
+use Rattle.fuse_text.specs.Outputs.{AppendsSome}
 use Rattle.fw_check.proofs.CheckLaws.{from_no_error}
 use Rattle.fw_check.proofs.checker.Checker.check_said.Goals as goal
 

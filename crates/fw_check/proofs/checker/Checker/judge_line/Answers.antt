@@ -1,7 +1,7 @@
 use Rattle.std.proofs.Common.{◌++◌, ap, sym, ◌∙◌}
 use Rattle.fw_check.specs.Forms.{act_lines, leaving_text}
 use Rattle.fw_check.specs.Past.{remembered}
-use Rattle.fw_check.proofs.Writes.{OnOk-map}
+use Rattle.fuse_text.proofs.Writes.{OnOk-map}
 use Rattle.fw_check.proofs.checker.Checker.judge_line.Goals as goal
 
 pub returns : goal.returns

@@ -1,6 +1,6 @@
 use Rattle.std.proofs.Common.{◌++◌, codes}
 use Rattle.fw_check.specs.Tallies.{counted}
-use Rattle.fw_check.proofs.Writes.{after_two, two_parts}
+use Rattle.fw_check.proofs.Parts.{after_two, two_parts}
 use Rattle.fw_check.proofs.counts.Counts.put_parties.Goals as goal
 
 pub returns : goal.returns

@@ -1,6 +1,6 @@
 use Rattle.fw_drive.specs.Findings.{is_any_wrong}
 use Rattle.fw_drive.specs.Notes.{notes_text}
-use Rattle.fw_script.proofs.Writes.{Appends-Keeps}
+use Rattle.std.proofs.KnownBytes.{Appends-kept}
 use Rattle.fw_drive.proofs.Texts.{gets_all, told_given}
 use Rattle.fw_drive.proofs.notes.Notes.print_noted.Goals as goal
 
@@ -12,7 +12,7 @@ returns-in-Ok g c =
     let has = g.W.Write.contents c.flush.new.out in (
       c.flush.ensures.own,
       said,
-      gets_all c.flush.result had has (notes_text said) (Appends-Keeps had mid has (notes_text said) all c.flush.ensures.keeps),
+      gets_all c.flush.result had has (notes_text said) (Appends-kept had mid has (notes_text said) all c.flush.ensures.keeps),
       told_given c.flush.result c.args.self.now.is_wrong c.print_one.new.self.is_wrong (is_any_wrong said) told,
     )
 

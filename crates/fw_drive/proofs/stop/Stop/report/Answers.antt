@@ -1,5 +1,5 @@
 use Rattle.std.proofs.Common.{arith}
-use Rattle.fw_script.proofs.Writes.{some_all}
+use Rattle.fuse_text.proofs.Writes.{some_all}
 use Rattle.fw_drive.specs.Printed.{stop_line}
 use Rattle.fw_drive.proofs.stop.Stop.report.Goals as goal
 

@@ -1,4 +1,5 @@
-use Rattle.fw_script.proofs.Writes.{Appends-Keeps, some_all}
+use Rattle.std.proofs.KnownBytes.{Appends-kept}
+use Rattle.fuse_text.proofs.Writes.{some_all}
 use Rattle.fw_drive.specs.Printed.{stop_line}
 use Rattle.fw_drive.proofs.stop.Stop.say.Goals as goal
 
@@ -6,5 +7,5 @@ pub returns-in-Err-flush-clause-refused : goal.returns-in-Err-flush-clause-refus
 returns-in-Err-flush-clause-refused g c =
     let line = stop_line g.row.A.Denot c.args.waits c.args.self in
     some_all _ _ line
-    (Appends-Keeps (g.W.Write.contents c.args.out.now) (g.W.Write.contents c.write_line.new.out)
+    (Appends-kept (g.W.Write.contents c.args.out.now) (g.W.Write.contents c.write_line.new.out)
     (g.W.Write.contents c.flush.new.self) line c.in-Ok.ensures.ok c.flush.ensures.bytes)

@@ -1,7 +1,7 @@
 use Rattle.std.proofs.Common.{subst, sym}
 use Rattle.std.specs.Prelude.{OnErr, OnOk}
 use Rattle.std.specs.Io.KnownBytes.{Appends}
-use Rattle.fw_script.specs.Outputs.{AppendsSome}
+use Rattle.fuse_text.specs.Outputs.{AppendsSome}
 use Rattle.fw_drive.specs.Printed.{stop_line}
 use Rattle.fw_drive.specs.declared.stop.Stop.{Stop}
 use Rattle.fw_drive.proofs.stop.Stop.write_line.Goals as goal

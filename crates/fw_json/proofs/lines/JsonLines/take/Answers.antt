@@ -1,7 +1,7 @@
 use Rattle.std.proofs.Common.{◌++◌, ◌+◌, List, ℕ, ap, sym, subst, take}
-use Rattle.fw_script.specs.Outputs.{AppendsSome}
-use Rattle.fw_script.proofs.Splitting.{split_at_position}
-use Rattle.fw_script.proofs.Writes.{OnErr-always}
+use Rattle.fuse_text.specs.Outputs.{AppendsSome}
+use Rattle.fuse_text.proofs.Splitting.{split_at_position}
+use Rattle.fuse_text.proofs.Writes.{OnErr-always}
 use Rattle.fw_json.specs.Objects.{json_line}
 use Rattle.fw_json.specs.Texts.{first_of}
 use Rattle.fw_json.proofs.Feeds.{cut_at_feed}

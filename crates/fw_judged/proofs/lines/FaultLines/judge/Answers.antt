@@ -1,6 +1,6 @@
 use Rattle.std.proofs.Common.{◌≡◌, ◌∙◌, List, ℕ, refl, subst, sym}
 use Rattle.std.specs.Io.KnownBytes.{Appends}
-use Rattle.fw_check.specs.Outputs.{AppendsSome}
+use Rattle.fuse_text.specs.Outputs.{AppendsSome}
 use Rattle.fw_judged.specs.declared.form.Form.{Form}
 use Rattle.fw_judged.specs.declared.stage.Stage.TheVariants as stage
 use Rattle.fw_judged.specs.Judged.{Judges, LinesState, state_of}

@@ -1,4 +1,4 @@
-use Rattle.fw_script.proofs.Writes.{some_either}
+use Rattle.fuse_text.proofs.Writes.{some_either}
 use Rattle.fw_orders.proofs.stop.Stop.report.Goals as goal
 
 pub returns-in-BadLine-clause-said : goal.returns-in-BadLine-clause-said

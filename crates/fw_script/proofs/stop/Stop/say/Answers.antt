@@ -1,4 +1,4 @@
-use Rattle.fw_script.proofs.Writes.{some_either}
+use Rattle.fuse_text.proofs.Writes.{some_either}
 use Rattle.fw_script.proofs.stop.Stop.say.Goals as goal
 
 pub returns : goal.returns

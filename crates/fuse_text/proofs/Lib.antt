@@ -1,0 +1,6 @@
+pub mod Decimals
+pub mod Digits
+pub mod Hexes
+mod LineFeeds
+pub mod Splitting
+pub mod Writes

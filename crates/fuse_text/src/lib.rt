@@ -1,0 +1,22 @@
+//! Texts: the words of a line, numbers and hex, as they are read and written.
+#![tactic(auto)]
+
+mod hex_text;
+mod lines;
+mod number;
+mod output;
+mod printed;
+mod short_text;
+mod split;
+mod word;
+
+pub use hex_text::{
+    HexFault, is_hex, is_hex_or_none, read_hex, read_hex_or_none, write_hex, write_hex_or_none,
+};
+pub use lines::{LineError, next_line};
+pub use number::read_number;
+pub use output::{OutputRefused, write_number, write_text};
+pub use printed::{print_hex, print_hex_or_none, print_name};
+pub use short_text::ShortText;
+pub use split::{find_far, find_near, split_at, split_at_first};
+pub use word::{Words, one_word, split_word, three_words, two_words};

@@ -1,8 +1,0 @@
--- What a writer has of a text that is written to it.
-use Rattle.std.specs.Prelude.{ℕ, List, Option, take}
-use Rattle.std.specs.Io.KnownBytes.{Appends}
-
--- a beginning of the text was written
-pub record AppendsSome (old new : Option (List ℕ)) (text : List ℕ) : Type 0 where
-  pub count : ℕ
-  pub part : Appends old new (take count text)
