@@ -39,7 +39,10 @@ use Rattle.fs_server.specs.Effects.{TakesFrame, PerformsHeld, SendsAgain, Settle
 use Rattle.fs_server.specs.declared.server.Taken.{Taken}
 use Rattle.fk_kernel.specs.Refused.{read_forgets_refusal, tick_refusal, drop_refusal, evict_refusal, IsForgetFrame}
 use Rattle.fk_kernel.specs.Refused.{signal_refusal, read_interrupt_refusal, abort_refusal, IsSignalled, IsInterruptFrame}
-use Rattle.fw_world.specs.Values.{with_copy}
+use Rattle.fk_kernel.specs.Picks.{IsPicked, after_pick, pick_refusal}
+use Rattle.fk_kernel.specs.declared.read.Pick.{Pick}
+use Rattle.fk_kernel.specs.declared.read.Pick.TheVariants as pick
+use Rattle.fw_world.specs.Values.{read_of, with_copy}
 use Rattle.fw_world.proofs.WorldParts.{world_of, is_made, happens_so, replying_is}
 use Rattle.fw_world.proofs.Interrupts.{signals, reads_interrupt, aborts}
 use Rattle.fw_world.proofs.Happening.{mounts, calls, reads, reads_forgets, takes, performs, sends_again, writes, settles, ticks, drops, evicts}
@@ -314,6 +317,15 @@ module _ (w : World) (sound : IsSoundWorld w) (kernel : Kernel) (server : Server
       (made_by event.read_interrupt (event.is_read (interrupt_number original)) after
       (is_made after kernel server requests replies results k s sent b c)
       (reads_interrupt w original frame.rest judged frame.first (within after (sym k) (sym s))))
+
+  pub picked : (pick : Pick) (unique : ℕ) (request : Request) → pick_refusal w.kernel pick ≡ None
+      → IsPicked w.kernel pick request → unique ≡ request.unique
+      → kernel ≡ record w.kernel { queues = after_pick w.kernel.queues pick } → server ≡ w.server
+      → requests ≡ w.requests ++ request ∷ [] → replies ≡ w.replies → results ≡ w.results → Within
+      → Made (read_of pick) (event.is_read unique)
+  picked pick.Interrupt unique request = interrupt_read unique request
+  picked (pick.Forgets count) unique request = forgets_read count unique request
+  picked (pick.Pending place) unique request = read place unique request
 
   pub aborted : abort_refusal w.kernel ≡ None → kernel ≡ kernel_aborted w.kernel → server ≡ connection_lost w.server
       → requests ≡ [] → replies ≡ [] → results ≡ [] → Made event.abort event.aborted

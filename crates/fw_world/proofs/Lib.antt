@@ -16,3 +16,4 @@ pub mod Losing
 pub mod OverLinks
 pub mod InOrder
 mod ListedNodes
+mod Picking

@@ -47,56 +47,11 @@ impl<T: Tables> SidesOf<T> {
         ensures happens { IfOk result (λ outcome. Happens self.old (read_of pick) (outcome_of outcome) self.new) }
         ensures shows { IfOk result (IsShown self.new) }
     {
-        match pick {
-            Pick::Interrupt => self.read_interrupt(),
-            Pick::Forgets(count) => self.read_forgets(count),
-            Pick::Pending(place) => self.read_pending(place),
-        }
-    }
-
-    fn read_interrupt(&mut self) -> Result<Outcome, Refusal>
-        ensures err { OnErr result (self.new ≡ self.old) }
-        ensures refusal { IfErr result (RefusedWith self.old event.read_interrupt) }
-        ensures happens { IfOk result (λ outcome. Happens self.old event.read_interrupt (outcome_of outcome) self.new) }
-        ensures shows { IfOk result (IsShown self.new) }
-    {
         lemma_in_range(&self.kernel, &self.server);
         if self.requests.reserve(1).is_err() {
-            return Err(refusal_or_no_memory(self.kernel.read_refusal(Pick::Interrupt)));
+            return Err(refusal_or_no_memory(self.kernel.read_refusal(pick)));
         }
-        let frame = self.kernel.read(Pick::Interrupt)?;
-        lemma_in_range(&self.kernel, &self.server);
-        Ok(put_read(&mut self.requests, frame))
-    }
-
-    fn read_pending(&mut self, place: u64) -> Result<Outcome, Refusal>
-        ensures err { OnErr result (self.new ≡ self.old) }
-        ensures refusal { IfErr result (RefusedWith self.old (event.read_pending place)) }
-        ensures happens { IfOk result (λ outcome. Happens self.old (event.read_pending place)
-            (outcome_of outcome) self.new) }
-        ensures shows { IfOk result (IsShown self.new) }
-    {
-        lemma_in_range(&self.kernel, &self.server);
-        if self.requests.reserve(1).is_err() {
-            return Err(refusal_or_no_memory(self.kernel.read_refusal(Pick::Pending(place))));
-        }
-        let frame = self.kernel.read(Pick::Pending(place))?;
-        lemma_in_range(&self.kernel, &self.server);
-        Ok(put_read(&mut self.requests, frame))
-    }
-
-    fn read_forgets(&mut self, count: u64) -> Result<Outcome, Refusal>
-        ensures err { OnErr result (self.new ≡ self.old) }
-        ensures refusal { IfErr result (RefusedWith self.old (event.read_forgets count)) }
-        ensures happens { IfOk result (λ outcome. Happens self.old (event.read_forgets count)
-            (outcome_of outcome) self.new) }
-        ensures shows { IfOk result (IsShown self.new) }
-    {
-        lemma_in_range(&self.kernel, &self.server);
-        if self.requests.reserve(1).is_err() {
-            return Err(refusal_or_no_memory(self.kernel.read_refusal(Pick::Forgets(count))));
-        }
-        let frame = self.kernel.read(Pick::Forgets(count))?;
+        let frame = self.kernel.read(pick)?;
         lemma_in_range(&self.kernel, &self.server);
         Ok(put_read(&mut self.requests, frame))
     }

@@ -1,37 +1,37 @@
 use Rattle.std.proofs.Common.{refl, ap, ◌∙◌}
 use Rattle.std.proofs.lemmas.Result.{err_from_is_err_and}
 use Rattle.fuse_spec.specs.Kernel.Refusals.{or_no_memory}
-use Rattle.fuse_spec.specs.World.Events as event
+use Rattle.fw_world.specs.Values.{read_of}
 use Rattle.fw_world.proofs.WorldParts.{world_of}
-use Rattle.fw_world.proofs.EventEffects.{read}
-use Rattle.fw_world.proofs.Refusing.{read_refused}
-use Rattle.fw_world.proofs.MemoryRefusals.{judged, read_out_of_memory}
-use Rattle.fw_world.proofs.sides.SidesOf.read_pending.Goals as goal
+use Rattle.fw_world.proofs.EventEffects.{picked}
+use Rattle.fw_world.proofs.MemoryRefusals.{judged}
+use Rattle.fw_world.proofs.Picking.{pick_out_of_memory, pick_refused}
+use Rattle.fw_world.proofs.sides.SidesOf.read.Goals as goal
 
 pub returns-then-is_err-clause-refusal : goal.returns-then-is_err-clause-refusal
 returns-then-is_err-clause-refusal g c =
     let w = (world_of c.self.inside.kernel c.self.inside.server c.self.inside.requests.items c.self.inside.replies.items c.self.inside.results.items) in
     let given = c.refusal_or_no_memory.ensures ∙ ap or_no_memory c.read_refusal.ensures in
-    rw (← c.self.view_is) (judged w (event.read_pending c.args.place) _ _ (read_refused w c.args.place)
-    (λ none is. read_out_of_memory w (c.lemma_in_range.ensures w refl refl) c.args.place none _ is) given)
+    rw (← c.self.view_is) (judged w (read_of c.args.pick) _ _ (pick_refused w c.args.pick)
+    (λ none is. pick_out_of_memory w (c.lemma_in_range.ensures w refl refl) c.args.pick none _ is) given)
 
 pub returns-in_err-frame-clause-refusal : goal.returns-in_err-frame-clause-refusal
 returns-in_err-frame-clause-refusal g c =
     let w = (world_of c.self.inside.kernel c.self.inside.server c.self.inside.requests.items c.self.inside.replies.items c.self.inside.results.items) in
     let p = err_from_is_err_and c.from_residual.result c.from_residual.ensures.1 in
-    rw (p.1, p.2, ← c.self.view_is) (judged w (event.read_pending c.args.place) _ _ (read_refused w c.args.place)
-    (λ none is. read_out_of_memory w (c.lemma_in_range.ensures w refl refl) c.args.place none _ is) c.in_err-frame.ensures.refusal)
+    rw (p.1, p.2, ← c.self.view_is) (judged w (read_of c.args.pick) _ _ (pick_refused w c.args.pick)
+    (λ none is. pick_out_of_memory w (c.lemma_in_range.ensures w refl refl) c.args.pick none _ is) c.in_err-frame.ensures.refusal)
 
 pub invariant_of-self-2 : goal.invariant_of-self-2
 invariant_of-self-2 g c =
-    (read _ c.self.invariant _ _ _ _ _ c.args.place _ c.in_ok-frame.frame
+    (picked _ c.self.invariant _ _ _ _ _ c.args.pick _ c.in_ok-frame.frame
     c.in_ok-frame.ensures.judged c.in_ok-frame.ensures.frame refl c.in_ok-frame.ensures.read refl
     (rw c.reserve.ensures.items at c.put_read.ensures.items) refl refl c.lemma_in_range-2.ensures).1
 
 pub returns-clause-happens : goal.returns-clause-happens
 returns-clause-happens g c =
     rw (c.put_read.ensures.outcome, ← c.self.view_is)
-    (read _ c.self.invariant _ _ _ _ _ c.args.place _ c.in_ok-frame.frame
+    (picked _ c.self.invariant _ _ _ _ _ c.args.pick _ c.in_ok-frame.frame
     c.in_ok-frame.ensures.judged c.in_ok-frame.ensures.frame refl c.in_ok-frame.ensures.read refl
     (rw c.reserve.ensures.items at c.put_read.ensures.items) refl refl c.lemma_in_range-2.ensures).0
 
