@@ -17,3 +17,4 @@ pub mod OverLinks
 pub mod InOrder
 mod ListedNodes
 mod Picking
+mod Stepped

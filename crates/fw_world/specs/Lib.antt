@@ -2,5 +2,6 @@ pub mod Values
 pub mod Runs
 pub mod Frames
 pub mod Sends
+pub mod Steps
 pub mod OverLinks
 pub mod ListedNodes

@@ -14,6 +14,7 @@ ghost use Rattle.fuse_theorem.specs.SoundWorlds.{IsSoundWorld};
 ghost use Rattle.fk_syscalls.specs.Values.{answer_of};
 ghost use Rattle.fw_world.specs.Frames.{IsFrameOf, IsShown};
 ghost use Rattle.fw_world.specs.ListedNodes.{AreListed};
+ghost use Rattle.fw_world.specs.Steps.{IsStep};
 ghost use Rattle.fw_world.specs.Runs.{StepsAs, call_collected};
 ghost use Rattle.fw_world.specs.Values.{counted_nodes, event_of, held_nodes, outcome_of};
 
@@ -119,10 +120,7 @@ impl<T: Tables> SidesOf<T> {
     /// last of them: nothing else refuses the event, and `Settle`, `Interrupt`, `Tick`, `DropName`, `Evict` and `Abort`
     /// never get it.
     pub fn step(&mut self, event: &Event<'_>) -> Result<Outcome, Refusal>
-        ensures err { OnErr result (self.new ≡ self.old) }
-        ensures refusal { IfErr result (RefusedWith self.old (event_of event.now)) }
-        ensures happens { IfOk result (λ outcome. Happens self.old (event_of event.now) (outcome_of outcome) self.new) }
-        ensures shows { IfOk result (IsShown self.new) }
+        ensures step { IsStep self.old (event_of event.now) result self.new }
         ensures refines { IfOk result (λ outcome. StepsAs self.old (event_of event.now) (outcome_of outcome) self.new) }
     {
         self.lemma_protocol();
@@ -131,10 +129,7 @@ impl<T: Tables> SidesOf<T> {
 
     /// Runs one event, by its kind.
     fn dispatch(&mut self, event: &Event<'_>) -> Result<Outcome, Refusal>
-        ensures err { OnErr result (self.new ≡ self.old) }
-        ensures refusal { IfErr result (RefusedWith self.old (event_of event.now)) }
-        ensures happens { IfOk result (λ outcome. Happens self.old (event_of event.now) (outcome_of outcome) self.new) }
-        ensures shows { IfOk result (IsShown self.new) }
+        ensures { IsStep self.old (event_of event.now) result self.new }
     {
         match event {
             Event::Mount {
@@ -243,11 +238,7 @@ impl<T: Tables> SidesOf<T> {
     }
 
     fn mount(&mut self, found_ms: u64, missing_ms: u64, minor: Minor) -> Result<Outcome, Refusal>
-        ensures err { OnErr result (self.new ≡ self.old) }
-        ensures refusal { IfErr result (RefusedWith self.old (event.mount found_ms missing_ms minor)) }
-        ensures happens { IfOk result (λ outcome. Happens self.old (event.mount found_ms missing_ms minor)
-            (outcome_of outcome) self.new) }
-        ensures shows { IfOk result (IsShown self.new) }
+        ensures { IsStep self.old (event.mount found_ms missing_ms minor) result self.new }
     {
         if found_ms > MAX_VALIDITY || missing_ms > MAX_VALIDITY {
             return Err(Refusal::BadTime);
@@ -261,10 +252,7 @@ impl<T: Tables> SidesOf<T> {
     }
 
     fn abort(&mut self) -> Result<Outcome, Refusal>
-        ensures err { OnErr result (self.new ≡ self.old) }
-        ensures refusal { IfErr result (IsRefused self.old event.abort) }
-        ensures happens { IfOk result (λ outcome. Happens self.old event.abort (outcome_of outcome) self.new) }
-        ensures shows { IfOk result (IsShown self.new) }
+        ensures { IsStep self.old event.abort result self.new }
     {
         if let Err(refusal) = self.kernel.abort() {
             return Err(refusal);

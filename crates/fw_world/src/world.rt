@@ -15,6 +15,7 @@ ghost use Rattle.fk_syscalls.specs.Values.{answer_of};
 ghost use Rattle.fw_world.specs.Frames.{IsFrameOf, IsLastPut, IsShown};
 ghost use Rattle.fw_world.specs.ListedNodes.{AreListed};
 ghost use Rattle.fw_world.specs.Runs.{StepsAs, call_collected};
+ghost use Rattle.fw_world.specs.Steps.{IsStep};
 ghost use Rattle.fw_world.specs.Values.{counted_nodes, event_of, held_nodes, outcome_of};
 
 use crate::event::{Event, Outcome};
@@ -73,11 +74,7 @@ impl<T: Tables> WorldOf<T> {
     /// last of them: nothing else refuses the event, and `Settle`, `Interrupt`, `Tick`, `DropName`, `Evict` and `Abort`
     /// never get it; nor does `Take` of what is neither held nor answered, nor `Do` after an abort of what makes nothing.
     pub fn step(&mut self, event: &Event<'_>) -> Result<Outcome, Refusal>
-        ensures err { OnErr result (self.new.sides ≡ self.old.sides) }
-        ensures refusal { IfErr result (RefusedWith self.old.sides (event_of event.now)) }
-        ensures happens { IfOk result (λ outcome. Happens self.old.sides (event_of event.now)
-            (outcome_of outcome) self.new.sides) }
-        ensures shows { IfOk result (IsShown self.new.sides) }
+        ensures step { IsStep self.old.sides (event_of event.now) result self.new.sides }
         ensures last { self.new.last ≡ result_ok result }
         ensures refines { IfOk result (λ outcome. StepsAs self.old.sides (event_of event.now)
             (outcome_of outcome) self.new.sides) }

@@ -8,6 +8,7 @@ ghost use Rattle.fuse_spec.specs.World.Steps.{Happens, IsRefused, RefusedWith};
 ghost use Rattle.fuse_spec.specs.World.Worlds.{World as WorldState};
 ghost use Rattle.fk_syscalls.specs.Values.{call_of};
 ghost use Rattle.fw_world.specs.Frames.{IsShown};
+ghost use Rattle.fw_world.specs.Steps.{IsStep};
 ghost use Rattle.fw_world.specs.Values.{outcome_of, read_of};
 
 use super::SidesOf;
@@ -24,11 +25,7 @@ use std::collections::VecDeque;
 
 impl<T: Tables> SidesOf<T> {
     pub(super) fn call(&mut self, call: &Call<'_>) -> Result<Outcome, Refusal>
-        ensures err { OnErr result (self.new ≡ self.old) }
-        ensures refusal { IfErr result (RefusedWith self.old (event.call (call_of call.now))) }
-        ensures happens { IfOk result (λ outcome. Happens self.old (event.call (call_of call.now))
-            (outcome_of outcome) self.new) }
-        ensures shows { IfOk result (IsShown self.new) }
+        ensures { IsStep self.old (event.call (call_of call.now)) result self.new }
     {
         let call = match self.kernel.begin(call) {
             Ok(call) => call,
@@ -42,10 +39,7 @@ impl<T: Tables> SidesOf<T> {
     }
 
     pub(super) fn read(&mut self, pick: Pick) -> Result<Outcome, Refusal>
-        ensures err { OnErr result (self.new ≡ self.old) }
-        ensures refusal { IfErr result (RefusedWith self.old (read_of pick)) }
-        ensures happens { IfOk result (λ outcome. Happens self.old (read_of pick) (outcome_of outcome) self.new) }
-        ensures shows { IfOk result (IsShown self.new) }
+        ensures { IsStep self.old (read_of pick) result self.new }
     {
         lemma_in_range(&self.kernel, &self.server);
         if self.requests.reserve(1).is_err() {
@@ -57,10 +51,7 @@ impl<T: Tables> SidesOf<T> {
     }
 
     pub(super) fn write(&mut self, place: u64) -> Result<Outcome, Refusal>
-        ensures err { OnErr result (self.new ≡ self.old) }
-        ensures refusal { IfErr result (RefusedWith self.old (event.write place)) }
-        ensures happens { IfOk result (λ outcome. Happens self.old (event.write place) (outcome_of outcome) self.new) }
-        ensures shows { IfOk result (IsShown self.new) }
+        ensures { IsStep self.old (event.write place) result self.new }
     {
         let place = place as usize;
         if place >= self.replies.len() {
@@ -94,11 +85,7 @@ impl<T: Tables> SidesOf<T> {
     }
 
     pub(super) fn interrupt(&mut self, call: u64, fatal: bool) -> Result<Outcome, Refusal>
-        ensures err { OnErr result (self.new ≡ self.old) }
-        ensures refusal { IfErr result (IsRefused self.old (event.intr call fatal)) }
-        ensures happens { IfOk result (λ outcome. Happens self.old (event.intr call fatal)
-            (outcome_of outcome) self.new) }
-        ensures shows { IfOk result (IsShown self.new) }
+        ensures { IsStep self.old (event.intr call fatal) result self.new }
     {
         let effect = match self.kernel.interrupt(call, fatal) {
             Ok(effect) => effect,
@@ -109,10 +96,7 @@ impl<T: Tables> SidesOf<T> {
     }
 
     pub(super) fn tick(&mut self, ms: u64) -> Result<Outcome, Refusal>
-        ensures err { OnErr result (self.new ≡ self.old) }
-        ensures refusal { IfErr result (IsRefused self.old (event.tick ms)) }
-        ensures happens { IfOk result (λ outcome. Happens self.old (event.tick ms) (outcome_of outcome) self.new) }
-        ensures shows { IfOk result (IsShown self.new) }
+        ensures { IsStep self.old (event.tick ms) result self.new }
     {
         let clock = match self.kernel.tick(ms) {
             Ok(clock) => clock,
@@ -122,11 +106,7 @@ impl<T: Tables> SidesOf<T> {
     }
 
     pub(super) fn drop_name(&mut self, directory: u64, name: &[u8]) -> Result<Outcome, Refusal>
-        ensures err { OnErr result (self.new ≡ self.old) }
-        ensures refusal { IfErr result (IsRefused self.old (event.drop_name directory name.now)) }
-        ensures happens { IfOk result (λ outcome. Happens self.old (event.drop_name directory name.now)
-            (outcome_of outcome) self.new) }
-        ensures shows { IfOk result (IsShown self.new) }
+        ensures { IsStep self.old (event.drop_name directory name.now) result self.new }
     {
         if let Err(refusal) = self.kernel.drop_binding(directory, name) {
             return Err(refusal);
@@ -135,10 +115,7 @@ impl<T: Tables> SidesOf<T> {
     }
 
     pub(super) fn evict(&mut self, node: u64) -> Result<Outcome, Refusal>
-        ensures err { OnErr result (self.new ≡ self.old) }
-        ensures refusal { IfErr result (IsRefused self.old (event.evict node)) }
-        ensures happens { IfOk result (λ outcome. Happens self.old (event.evict node) (outcome_of outcome) self.new) }
-        ensures shows { IfOk result (IsShown self.new) }
+        ensures { IsStep self.old (event.evict node) result self.new }
     {
         let count = match self.kernel.evict(node) {
             Ok(count) => count,

@@ -6,6 +6,7 @@ ghost use Rattle.fuse_spec.specs.World.Events as event;
 ghost use Rattle.fuse_spec.specs.World.Steps.{Happens, IsRefused, RefusedWith};
 ghost use Rattle.fs_server.specs.Effects.{AnswersFrame};
 ghost use Rattle.fw_world.specs.Frames.{IsCopyFrame, IsShown};
+ghost use Rattle.fw_world.specs.Steps.{IsStep};
 ghost use Rattle.fw_world.specs.Values.{outcome_of, refusal_for, with_copy};
 
 use super::SidesOf;
@@ -23,10 +24,7 @@ use std::collections::VecDeque;
 
 impl<T: Tables> SidesOf<T> {
     pub(super) fn take(&mut self, place: u64) -> Result<Outcome, Refusal>
-        ensures err { OnErr result (self.new ≡ self.old) }
-        ensures refusal { IfErr result (RefusedWith self.old (event.take place)) }
-        ensures happens { IfOk result (λ outcome. Happens self.old (event.take place) (outcome_of outcome) self.new) }
-        ensures shows { IfOk result (IsShown self.new) }
+        ensures { IsStep self.old (event.take place) result self.new }
     {
         let place = place as usize;
         if place >= self.requests.len() {
@@ -54,11 +52,7 @@ impl<T: Tables> SidesOf<T> {
     }
 
     pub(super) fn perform(&mut self, unique: u64) -> Result<Outcome, Refusal>
-        ensures err { OnErr result (self.new ≡ self.old) }
-        ensures refusal { IfErr result (RefusedWith self.old (event.perform unique)) }
-        ensures happens { IfOk result (λ outcome. Happens self.old (event.perform unique)
-            (outcome_of outcome) self.new) }
-        ensures shows { IfOk result (IsShown self.new) }
+        ensures { IsStep self.old (event.perform unique) result self.new }
     {
         if !reserve_reply(&mut self.replies, &self.server) {
             lemma_in_range(&self.kernel, &self.server);
@@ -81,10 +75,7 @@ impl<T: Tables> SidesOf<T> {
     }
 
     pub(super) fn again(&mut self, unique: u64) -> Result<Outcome, Refusal>
-        ensures err { OnErr result (self.new ≡ self.old) }
-        ensures refusal { IfErr result (RefusedWith self.old (event.again unique)) }
-        ensures happens { IfOk result (λ outcome. Happens self.old (event.again unique) (outcome_of outcome) self.new) }
-        ensures shows { IfOk result (IsShown self.new) }
+        ensures { IsStep self.old (event.again unique) result self.new }
     {
         if self.replies.reserve(1).is_err() {
             lemma_in_range(&self.kernel, &self.server);
@@ -103,10 +94,7 @@ impl<T: Tables> SidesOf<T> {
     }
 
     pub(super) fn settle(&mut self, place: u64) -> Result<Outcome, Refusal>
-        ensures err { OnErr result (self.new ≡ self.old) }
-        ensures refusal { IfErr result (IsRefused self.old (event.settle place)) }
-        ensures happens { IfOk result (λ outcome. Happens self.old (event.settle place) (outcome_of outcome) self.new) }
-        ensures shows { IfOk result (IsShown self.new) }
+        ensures { IsStep self.old (event.settle place) result self.new }
     {
         let place = place as usize;
         if place >= self.results.len() {

@@ -11,22 +11,22 @@ collect_all-requires g c =
     let room : vec_len c.reserve.new.self + c.in-Some.room ≤ vec_capacity c.reserve.new.self =
     made_room c.reserve.result _ _ _ c.reserve.ensures.ok (sym c.is_err.ensures.value ∙ c.if-is_err.false) in
     let few = one_more_waits c.args.world.now.sides (event_of c.args.event.now)
-    (outcome_of c.in-Ok.outcome) c.step.new.self.sides c.in-Ok.ensures.happens in
+    (outcome_of c.in-Ok.outcome) c.step.new.self.sides c.in-Ok.ensures.step.happens in
     omega (arith, room, few, c.in-Some.ensures, c.push_reserved.ensures.len, c.push_reserved.ensures.capacity)
 
 pub returns-in-Ok-clause-ran : goal.returns-in-Ok-clause-ran
 returns-in-Ok-clause-ran g c ran =
     let all = c.collect_all.ensures.records in
-    adds_outcome c.args.world.now.sides c.lemma_protocol.ensures.sound c.args.event.now c.in-Ok.outcome c.step.new.self.sides c.in-Ok.ensures.happens c.in-Ok.ensures.shows c.args.records.now.items c.reserve.new.self.items c.push_reserved.new.self.items c.collect_all.new.records.items all.0 c.collect_all.new.world c.collect_all.ensures.world c.reserve.ensures.items c.push_reserved.ensures.items all.1 all.2
+    adds_outcome c.args.world.now.sides c.lemma_protocol.ensures.sound c.args.event.now c.in-Ok.outcome c.step.new.self.sides c.in-Ok.ensures.step.happens c.in-Ok.ensures.step.shows c.args.records.now.items c.reserve.new.self.items c.push_reserved.new.self.items c.collect_all.new.records.items all.0 c.collect_all.new.world c.collect_all.ensures.world c.reserve.ensures.items c.push_reserved.ensures.items all.1 all.2
 
 pub returns-in-Err-clause-ran : goal.returns-in-Err-clause-ran
 returns-in-Err-clause-ran g c ran =
-    adds_refusal c.args.world.now.sides c.lemma_protocol.ensures.sound c.args.event.now c.in-Err.refusal c.in-Err.ensures.refusal c.args.records.now.items c.reserve.new.self.items c.push_reserved-in-Err.new.self.items c.step.new.self.sides c.in-Err.ensures.err c.reserve.ensures.items c.push_reserved-in-Err.ensures.items
+    adds_refusal c.args.world.now.sides c.lemma_protocol.ensures.sound c.args.event.now c.in-Err.refusal c.in-Err.ensures.step.refusal c.args.records.now.items c.reserve.new.self.items c.push_reserved-in-Err.new.self.items c.step.new.self.sides c.in-Err.ensures.step.err c.reserve.ensures.items c.push_reserved-in-Err.ensures.items
 
 pub returns-in-Ok-clause-room : goal.returns-in-Ok-clause-room
 returns-in-Ok-clause-room g c ran =
     let few = one_more_waits c.args.world.now.sides (event_of c.args.event.now)
-    (outcome_of c.in-Ok.outcome) c.step.new.self.sides c.in-Ok.ensures.happens in
+    (outcome_of c.in-Ok.outcome) c.step.new.self.sides c.in-Ok.ensures.step.happens in
     let none_left = ap (λ (w : World). length w.kernel.vfs.answers) c.collect_all.ensures.world in
     let calls_left = ap (λ (w : World). length w.kernel.vfs.calls) c.collect_all.ensures.world in
     omega (

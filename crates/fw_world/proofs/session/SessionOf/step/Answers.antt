@@ -6,13 +6,13 @@ use Rattle.fw_world.proofs.session.SessionOf.step.Goals as goal
 
 pub returns-in-Err-clause-lost_before : goal.returns-in-Err-clause-lost_before
 returns-in-Err-clause-lost_before g c = λ is. absurd
-    (never_link_lost c.args.self.now.world (event_of c.args.event.now) c.in-Err.refusal c.in-Err.ensures.refusal is)
+    (never_link_lost c.args.self.now.world (event_of c.args.event.now) c.in-Err.refusal c.in-Err.ensures.step.refusal is)
 
 pub carry-requires-clause-out : goal.carry-requires-clause-out
 carry-requires-clause-out g c = is_out c.args.self.now.world (event_of c.args.event.now)
-    (outcome_of c.in-Ok.outcome) c.step.new.self c.in-Ok.ensures.happens
+    (outcome_of c.in-Ok.outcome) c.step.new.self c.in-Ok.ensures.step.happens
 
 pub returns-clause-refines : goal.returns-clause-refines
 returns-clause-refines g c = steps_over c.args.self.now.world c.step.new.self c.carry.new.self.world
     (event_of c.args.event.now)
-    (outcome_of c.in-Ok.outcome) c.carry.new.self.is_lost c.lemma_protocol.ensures.sound c.in-Ok.ensures.happens c.carry.ensures.same c.carry.ensures.aborts
+    (outcome_of c.in-Ok.outcome) c.carry.new.self.is_lost c.lemma_protocol.ensures.sound c.in-Ok.ensures.step.happens c.carry.ensures.same c.carry.ensures.aborts
