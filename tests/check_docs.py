@@ -138,7 +138,7 @@ def uncommented_rows():
 
 def versions():
     """Where the version and the logic stand, with what stands there: they have to agree."""
-    program = re.search(r'VERSION: &str = "(\S+) \((.*)\)"', (TOP / "crates/fuseworld/src/version.rt").read_text())
+    program = re.search(r'VERSION: &str = "(\S+) \((.*)\)"', (TOP / "crates/fw_tasks/src/version.rt").read_text())
     yield "README.md", program[2], re.search(r"^Proved with .*?`(logic \S+)`", (TOP / "README.md").read_text(), re.M)[1]
     yield "CHANGELOG.md", program[1], re.search(r"^## (\S+)$", (TOP / "CHANGELOG.md").read_text(), re.M)[1]
     yield "man/fuseworld.1", f"fuseworld {program[1]}", re.search(r'^\.TH .*?"(.*?)"', (TOP / "man/fuseworld.1").read_text(), re.M)[1]

@@ -97,7 +97,7 @@ for place in begin end; do
 done
 
 # The version. A program without proofs (tests/unproved.py) says so.
-version=$(sed -n 's/.*VERSION: &str = "\(.*\)";/\1/p' crates/fuseworld/src/version.rt)
+version=$(sed -n 's/.*VERSION: &str = "\(.*\)";/\1/p' crates/fw_tasks/src/version.rt)
 case $program in *-unproved) version="${version%% *}-unproved (no proofs)" ;; esac
 expect_lines 0 "fuseworld $version" "" --version
 "$program" --version > /dev/full 2> "$work/err"

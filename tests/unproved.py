@@ -41,7 +41,7 @@ def copied_to(folder):
     for name in ("crates.txt", "HANDLES"):
         shutil.copy(TOP / name, folder)
     crate = folder / "crates" / "fuseworld"
-    source = crate / "src" / "version.rt"
+    source = folder / "crates" / "fw_tasks" / "src" / "version.rt"
     text, found = VERSION.subn(UNPROVED, source.read_text())
     if found != 1:
         sys.exit(f"{source.relative_to(folder)} has no version of the form that {Path(__file__).name} changes")

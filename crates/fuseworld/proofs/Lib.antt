@@ -1,5 +1,1 @@
-mod Adding
-mod Names
-mod Parsing
-mod Reading
 mod Statuses

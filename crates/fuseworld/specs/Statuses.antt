@@ -4,19 +4,19 @@ use Rattle.clap.specs.Words.{App, IsAmong, Text, fault_of, subcommand_of}
 use Rattle.clap.specs.declared.error.kind.ErrorKind.{ErrorKind}
 use Rattle.clap.specs.declared.error.kind.ErrorKind.TheVariants.{DisplayVersion, OutOfMemory}
 use Rattle.fw_check.specs.declared.options.CheckOptions.{CheckOptions}
-use Rattle.fuseworld.specs.DriveWords.{go_together}
+use Rattle.fw_tasks.specs.DriveWords.{go_together}
 use Rattle.fuseworld.specs.ServeStatuses.{drive_statuses, serve_statuses}
-use Rattle.fuseworld.specs.Tasks.{AsksFor, options_of}
-use Rattle.fuseworld.specs.Values.{IsOffer}
+use Rattle.fw_tasks.specs.Tasks.{AsksFor, options_of}
+use Rattle.fw_tasks.specs.Values.{IsOffer}
 use Rattle.fuseworld.specs.declared.capture.CaptureTask.{CaptureTask}
 use Rattle.fuseworld.specs.declared.capture.CaptureTask.TheVariants as capture
-use Rattle.fuseworld.specs.declared.check_words.CheckTask.{CheckTask}
-use Rattle.fuseworld.specs.declared.command.Task.{Task}
-use Rattle.fuseworld.specs.declared.command.Task.TheVariants as task
+use Rattle.fw_tasks.specs.declared.check_words.CheckTask.{CheckTask}
+use Rattle.fw_tasks.specs.declared.command.Task.{Task}
+use Rattle.fw_tasks.specs.declared.command.Task.TheVariants as task
 use Rattle.fuseworld.specs.declared.doing.InputTask.{InputTask}
 use Rattle.fuseworld.specs.declared.doing.InputTask.TheVariants as input
-use Rattle.fuseworld.specs.declared.frame_commands.FrameTask.{FrameTask}
-use Rattle.fuseworld.specs.declared.frame_commands.FrameTask.TheVariants as frame
+use Rattle.fw_tasks.specs.declared.frame_tasks.FrameTask.{FrameTask}
+use Rattle.fw_tasks.specs.declared.frame_tasks.FrameTask.TheVariants as frame
 
 -- the exit statuses of a task on one input
 abbrev pub input_statuses : InputTask → List ℕ

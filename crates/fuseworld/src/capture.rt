@@ -1,20 +1,16 @@
 //! The commands on captures: `decode`, `check`, and `draw` with `--around`.
 
-ghost use Rattle.std.specs.Prelude.{Contains, codes};
-ghost use Rattle.clap.specs.Words.{new_rule};
-ghost use Rattle.fuseworld.specs.Arguments.{IsArgument};
+ghost use Rattle.std.specs.Prelude.{Contains};
 ghost use Rattle.fuseworld.specs.Doing.{DoesCapture};
 ghost use Rattle.fuseworld.specs.Statuses.{capture_statuses};
 
-use crate::arguments::optional;
 use crate::output::standard_output;
 use crate::reason::cannot_open;
-use clap::Arg;
 use fw_check::{CheckOptions, run_check};
 use fw_decode::run_decode;
 use fw_script::no_memory;
 use fw_sequence::draw_capture;
-use std::alloc::{Allocator, Global};
+use std::alloc::Allocator;
 use std::fs::File;
 use std::io;
 use std::io::{BufRead, BufReader, BufWriter, ErrorKind, Write};
@@ -28,17 +24,6 @@ pub enum CaptureTask {
     Check(CheckOptions),
     /// The frames around a line are printed as a picture.
     Sequence { around: u64 },
-}
-
-/// The argument that is a capture.
-pub fn capture_argument<'a>(alloc: Global) -> Arg<'a>
-    ensures { IsArgument (new_rule (codes "FILE")) result }
-{
-    optional(
-        alloc,
-        "FILE",
-        "The capture: `>` and a request, or `<` and a reply, in hex, a line each",
-    )
 }
 
 /// Does a task on a capture, and gives the exit status: what `run_decode`, `run_check` and `draw_capture` give.

@@ -1,48 +1,13 @@
 //! The command `draw`: a run as a picture.
 
-ghost use Rattle.std.specs.Prelude.{◌∷◌, [], Contains, IfOk, codes};
-ghost use Rattle.fuseworld.specs.Arguments.{IsArgument, number};
-ghost use Rattle.fuseworld.specs.Commands.{IsCommand, draw_app, last_line};
+ghost use Rattle.std.specs.Prelude.{◌∷◌, [], Contains};
 
-use crate::arguments::{needed, option};
 use crate::capture::{CaptureTask, run_capture};
 use crate::doing::{InputTask, do_task};
 use crate::output::standard_output;
-use clap::builder::ValueParser;
-use clap::{Arg, Command};
 use fw_script::{cannot_read, no_memory};
-use std::alloc::{AllocError, Global};
 use std::fs::File;
 use std::io::{BufWriter, ErrorKind};
-
-/// The option that asks for the frames around a line.
-fn around_argument<'a>(alloc: Global) -> Arg<'a>
-    ensures { IsArgument (number (codes "around") 0 last_line (codes "0")) result }
-{
-    option(
-        alloc,
-        "around",
-        "LINE",
-        "0",
-        "FILE is a capture: print the frames around this line; 0 for none",
-    )
-    .value_parser(ValueParser::Unsigned(0, u64::MAX))
-}
-
-/// The command `draw`.
-pub fn draw_command<'a>(alloc: Global) -> Result<Command<'a>, AllocError>
-    ensures { IfOk result (IsCommand draw_app) }
-{
-    let file = needed(
-        alloc,
-        "FILE",
-        "The script: one event a line, or - for standard input",
-    );
-    Command::new(alloc, "draw")
-        .about("Run a script of events and print the run as a picture, in SVG")
-        .arg(around_argument(alloc))?
-        .arg(file)
-}
 
 /// Draws the run of the script in a file, or on standard input, and gives the exit status.
 fn draw_run(rt: &HostRuntime, path: &str) -> u8

@@ -1,10 +1,8 @@
 //! Runs scripts of events on a FUSE kernel and its server, reads frames, and serves a kernel.
 #![tactic(auto)]
 
-mod arguments;
 mod capture;
-mod check_words;
-mod command;
+mod check_task;
 mod doing;
 mod draw;
 mod drive;
@@ -15,26 +13,24 @@ mod output;
 mod reason;
 mod saying;
 mod serve;
-mod serve_words;
 mod sides;
 mod socket;
 mod stream_frame;
 mod timed_socket;
-mod values;
 mod version;
 
 ghost use Rattle.std.specs.Prelude.{◌∷◌, [], Contains, map, string_bytes};
 ghost use Rattle.clap.specs.Words.{kind_of};
-ghost use Rattle.fuseworld.specs.Commands.{AreMinors, program_app};
+ghost use Rattle.fw_tasks.specs.Commands.{AreMinors, program_app};
 ghost use Rattle.fuseworld.specs.Statuses.{EndsWith, ExitsAt, RefusesWith};
 
 use clap::Error;
-use command::{Task, is_memory, read_task};
 use doing::{InputTask, do_task};
 use draw::run_draw;
 use drive::run_drive_task;
 use frame_commands::run_frame_task;
 use fw_script::{Script, cannot_read, no_memory};
+use fw_tasks::{Task, is_memory, read_task};
 use output::standard_output;
 use serve::run_serve;
 use sides::run_side;

@@ -1,47 +1,15 @@
 //! The orders of `drive --orders`.
 
-ghost use Rattle.std.specs.Prelude.{◌≡◌, Contains, IfOk, codes, false};
-ghost use Rattle.clap.specs.Words.{app_of, with_rule};
-ghost use Rattle.clap.specs.declared.builder.command.Command.TheViews.{out-Command as fields_of};
-ghost use Rattle.fuseworld.specs.Arguments.{flag, number};
-ghost use Rattle.fuseworld.specs.Commands.{IsCommand, last_node};
+ghost use Rattle.std.specs.Prelude.{Contains};
 ghost use Rattle.fuseworld.specs.ServeStatuses.{drive_statuses};
 
-use crate::arguments::flag;
-use crate::drive::{DriveTask, number_argument};
 use crate::output::standard_output;
 use crate::reason::cannot_open;
-use clap::Command;
 use fw_orders::{Wanted, print_orders};
 use fw_script::no_memory;
-use std::alloc::{AllocError, Global};
+use fw_tasks::DriveTask;
 use std::fs::File;
 use std::io::{BufWriter, ErrorKind};
-
-/// The arguments of orders.
-pub(crate) fn with_orders<'a>(
-    alloc: Global,
-    command: Command<'a>,
-) -> Result<Command<'a>, AllocError>
-    ensures { IfOk result (λ all. (fields_of command.entry).has_globals ≡ false
-        → IsCommand (with_rule (with_rule (with_rule (app_of command.entry) (flag (codes "orders")))
-        (flag (codes "number"))) (number (codes "nth") 0 last_node (codes "0"))) all) }
-{
-    let orders = flag(
-        alloc,
-        "orders",
-        "Print every order of the messages of the calls in FILE, each as a script",
-    );
-    let number = flag(alloc, "number", "With --orders: print how many there are");
-    let nth = number_argument(
-        alloc,
-        "nth",
-        "K",
-        "0",
-        "With --orders: print this one, from 1; 0 for all",
-    );
-    command.arg(orders)?.arg(number)?.arg(nth)
-}
 
 /// Which orders are printed.
 fn wanted(asked: DriveTask<'_>) -> Wanted {

@@ -1,7 +1,6 @@
 //! The command `serve`: the server before a kernel, or whoever speaks FUSE to it.
 
-ghost use Rattle.std.specs.Prelude.{◌≤◌, Contains};
-ghost use Rattle.fuse_spec.specs.Values.Numbers.{max_validity};
+ghost use Rattle.std.specs.Prelude.{Contains};
 ghost use Rattle.fuseworld.specs.ServeStatuses.{captured_statuses, serve_statuses, served_statuses};
 
 use crate::judged::status_with;
@@ -11,7 +10,8 @@ use fw_capture::CapturedDevice;
 use fw_judged::JudgedDevice;
 use fw_output::{LimitedWriter, room_in_file};
 use fw_script::no_memory;
-use fw_serve::{Mount, TracedDevice, WaitingReader, WaitingWriter, serve_device};
+use fw_serve::{TracedDevice, WaitingReader, WaitingWriter, serve_device};
+use fw_tasks::ServeTask;
 use std::fs::File;
 use std::io::{BufWriter, ErrorKind};
 use std::os::fd::AsRawFd;
@@ -22,23 +22,6 @@ use std::{fs, io};
 const STANDARD_INPUT: i32 = 0;
 
 const STANDARD_OUTPUT: i32 = 1;
-
-/// One run of `serve`.
-#[derive(Clone, Copy)]
-pub struct ServeTask<'a> {
-    /// How it is served.
-    pub mount: Mount,
-    /// Whether each frame is printed.
-    pub is_traced: bool,
-    /// Whether what goes over the device is judged, and each fault printed.
-    pub is_checked: bool,
-    /// The file to which a capture is written, if one is asked for.
-    pub capture: Option<&'a str>,
-    /// Where a socket is made for the one connection that is served, in the place of standard input and output.
-    pub socket: Option<&'a str>,
-    ghost found: { mount.validity.found_ms ≤ max_validity },
-    ghost missing: { mount.validity.missing_ms ≤ max_validity },
-}
 
 /// Serves a device, judged where that is asked for, and gives the exit status.
 fn serve_judged<D: Device + Drop>(rt: &HostRuntime, task: ServeTask<'_>, mut device: D) -> u8

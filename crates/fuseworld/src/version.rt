@@ -6,10 +6,8 @@ ghost use Rattle.clap.specs.Words.{kind_of};
 use crate::output::standard_output;
 use clap::Error;
 use clap::error::ErrorKind;
+use fw_tasks::VERSION;
 use std::io::Write;
-
-/// The version, and the logic in which it is proved, as `rt version` prints it. Several toolchains have that logic.
-pub const VERSION: &str = "1.1.0 (logic dac8208d650f15bf)";
 
 /// Whether the command line asks for the version.
 pub fn is_version(error: &Error) -> bool

@@ -1,0 +1,4 @@
+mod Adding
+mod Names
+mod Parsing
+mod Reading
