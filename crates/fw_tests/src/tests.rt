@@ -14,6 +14,8 @@ mod machine;
 mod over_links;
 mod over_lists;
 mod pieces;
+mod reference;
 mod rows;
+mod texts;
 mod two_servers;
 mod want;
