@@ -66,13 +66,16 @@ fn run(reference: &mut Reference<Maps<Global>>) -> Result<bool, Refusal> {
     Ok(is_good && reference.collect().is_none())
 }
 
-#[test]
-fn calls_are_carried_by_their_numbers_there(rt: HostRuntime) -> Result<(), Fail> {
-    let Ok(mut reference) = Reference::<Maps<Global>>::new(rt.alloc()) else {
-        return Ok(());
-    };
+/// The same in a new world.
+fn is_carried(alloc: Global) -> Result<bool, Refusal> {
+    let mut reference = Reference::<Maps<Global>>::new(alloc)?;
     let ran = run(&mut reference);
     reference.end();
-    assert!(rt; ran == Ok(true));
+    ran
+}
+
+#[test]
+fn calls_are_carried_by_their_numbers_there(rt: HostRuntime) -> Result<(), Fail> {
+    assert!(rt; is_carried(rt.alloc()) == Ok(true));
     Ok(())
 }
