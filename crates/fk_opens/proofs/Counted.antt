@@ -12,7 +12,8 @@ use Rattle.std.proofs.lemmas.Option.{none-some, same_Some}
 use Rattle.fuse_spec.specs.declared.Opened.{Opened}
 use Rattle.fuse_spec.specs.Values.Maps.{Map, get, put, remove, values}
 use Rattle.fuse_tables.proofs.Rows.{absent_is, none_past_first}
-use Rattle.fk_opens.specs.Pins.{one_less, HavePins}
+use Rattle.fuse_tables.specs.Tallies.{one_less}
+use Rattle.fk_opens.specs.Pins.{HavePins}
 use Rattle.fk_opens.specs.Uses.{one_of, uses_of}
 use Rattle.fk_opens.proofs.Pins.{few_pins, is_pinned_is, pinned, unpinned}
 

@@ -1,3 +1,2 @@
-pub mod CountRows
 pub mod Counted
 pub mod Pins

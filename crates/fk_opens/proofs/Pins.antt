@@ -2,7 +2,8 @@
 use Rattle.std.proofs.Common.{◌≡◌, ◌≢◌, ◌⊎◌, ℕ, ◌+◌, ◌<◌, ◌^◌, Bool, true, false, cond, List, Some, None, is_some, refl, ap, ◌∙◌, arith, rules, nat_eq, nat_lt, inl, inr, unwrap_or}
 use Rattle.std.specs.Map.{lookup}
 use Rattle.std.proofs.lemmas.Bool.{cases_eq}
-use Rattle.fk_opens.specs.Pins.{positive, one_less, HavePins}
+use Rattle.fuse_tables.specs.Tallies.{positive, one_less}
+use Rattle.fk_opens.specs.Pins.{HavePins}
 
 value_of : (n : ℕ) → unwrap_or (positive n) 0 ≡ n
 value_of n = grind (arith, rules)

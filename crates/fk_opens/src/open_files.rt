@@ -6,9 +6,8 @@ ghost use Rattle.std.specs.Option.{option_copied};
 ghost use Rattle.fuse_spec.specs.declared.Opened.{Opened as OpenedFile};
 ghost use Rattle.fuse_spec.specs.Values.Maps.{get, put, remove, values};
 
-use crate::node_pins::NodePins;
 use fuse_spec::Opened;
-use fuse_tables::RisingTable;
+use fuse_tables::{RisingTable, Tally};
 use std::alloc::{AllocError, Allocator, Global};
 use std::marker::Model;
 
@@ -17,7 +16,7 @@ use std::marker::Model;
 #[derive(Drop)]
 pub struct OpenFiles<A: Allocator = Global> {
     files: RisingTable<Opened, A>,
-    uses: NodePins<A>,
+    uses: Tally<A>,
 }
 
 impl<A: Allocator> Model for OpenFiles<A> {
@@ -43,7 +42,7 @@ impl<A: Allocator + Copy> OpenFiles<A> {
     {
         OpenFiles {
             files: RisingTable::new(alloc),
-            uses: NodePins::new(alloc),
+            uses: Tally::new(alloc),
         }
     }
 
@@ -65,7 +64,7 @@ impl<A: Allocator + Copy> OpenFiles<A> {
     pub fn is_open(&self, node: u64) -> bool
         ensures { result ≡ list_any (λ (opened : OpenedFile). nat_eq opened.nodeid node) (values self.now.entries) }
     {
-        self.uses.is_pinned(node)
+        self.uses.has(node)
     }
 
     /// Makes room for this many more.
@@ -90,7 +89,7 @@ impl<A: Allocator + Copy> OpenFiles<A> {
         ensures room { self.old.room ≤ self.new.room + 1 }
     {
         self.files.lemma_sound();
-        self.uses.pin(opened.nodeid);
+        self.uses.add(opened.nodeid);
         self.files.put(number, opened);
     }
 
@@ -101,7 +100,7 @@ impl<A: Allocator + Copy> OpenFiles<A> {
         ensures room { self.old.room ≤ self.new.room }
     {
         let opened = self.files.remove(number)?;
-        self.uses.unpin(opened.nodeid);
+        self.uses.take(opened.nodeid);
         Some(opened)
     }
 

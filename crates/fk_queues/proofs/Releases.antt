@@ -14,7 +14,8 @@ use Rattle.fuse_spec.specs.Kernel.Kernel.{is_released_by}
 use Rattle.fuse_spec.specs.Kernel.Signals.{signal_effect}
 use Rattle.fuse_spec.specs.Kernel.Queues.{QueueState, is_unread, pending, request_under}
 use Rattle.fuse_spec.specs.Kernel.QueueCalls.{set_mark, after_reading, after_read_pending, waiting, after_answer, interrupt_effect, after_effect, after_interrupt, without}
-use Rattle.fk_opens.specs.Pins.{positive, HavePins}
+use Rattle.fuse_tables.specs.Tallies.{positive}
+use Rattle.fk_opens.specs.Pins.{HavePins}
 use Rattle.fk_queues.specs.Releases.{one_release, releases_of}
 
 abbrev Entries : Type 0

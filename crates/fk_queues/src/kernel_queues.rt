@@ -13,9 +13,8 @@ ghost use Rattle.fk_queues.specs.Releases.{one_release};
 use crate::forgets::Forgets;
 use crate::no_memory::NoMemory;
 use crate::table::QueueTable;
-use fk_opens::NodePins;
 use fuse_spec::{IntrEffect, Purpose};
-use fuse_tables::Table;
+use fuse_tables::{Table, Tally};
 use std::alloc::Allocator;
 use std::marker::Model;
 
@@ -25,7 +24,7 @@ use std::marker::Model;
 #[derive(Drop)]
 pub struct KernelQueues<Q: QueueTable<Purpose>> {
     queues: Q,
-    releases: NodePins<Q::Heap>,
+    releases: Tally<Q::Heap>,
     /// The call that each request of a call serves, by the request's number.
     calls: Table<u64, Q::Heap>,
 }
@@ -57,7 +56,7 @@ impl<Q: QueueTable<Purpose>> KernelQueues<Q> {
     pub fn is_releasing(&self, node: u64) -> bool
         ensures { result ≡ list_any (λ e. is_released_by node e.1.kept) self.now.queues.requests }
     {
-        self.releases.is_pinned(node)
+        self.releases.has(node)
     }
 
     /// The number of the request that serves a call, read or not: the oldest, if there are more.
@@ -78,7 +77,7 @@ impl<Q: QueueTable<Purpose>> QueueTable<Purpose> for KernelQueues<Q> {
     fn new(alloc: Q::Heap) -> Self {
         KernelQueues {
             queues: Q::new(alloc),
-            releases: NodePins::new(alloc),
+            releases: Tally::new(alloc),
             calls: Table::new(alloc),
         }
     }
@@ -183,7 +182,7 @@ impl<Q: QueueTable<Purpose>> QueueTable<Purpose> for KernelQueues<Q> {
 }
 
 /// A RELEASE that is queued pins the node of its file.
-fn pin_released<A: Allocator + Copy>(releases: &mut NodePins<A>, kept: Purpose)
+fn pin_released<A: Allocator + Copy>(releases: &mut Tally<A>, kept: Purpose)
     requires room { 0 < releases.old.room }
     requires small { (node : ℕ) → unwrap_or (lookup (nat_eq node) releases.old.counts) 0 + 1 < 2 ^ 64 }
     ensures pins { (pins : ℕ → ℕ) → HavePins releases.old.counts pins
@@ -191,19 +190,19 @@ fn pin_released<A: Allocator + Copy>(releases: &mut NodePins<A>, kept: Purpose)
     ensures room { releases.old.room ≤ releases.new.room + 1 }
 {
     match kept {
-        Purpose::Release(opened) => releases.pin(opened.nodeid),
+        Purpose::Release(opened) => releases.add(opened.nodeid),
         Purpose::Init | Purpose::Call(_) => {}
     }
 }
 
 /// A RELEASE that ends pins the node of its file no longer.
-fn unpin_released<A: Allocator + Copy>(releases: &mut NodePins<A>, kept: Purpose)
+fn unpin_released<A: Allocator + Copy>(releases: &mut Tally<A>, kept: Purpose)
     ensures pins { (pins now : ℕ → ℕ) → HavePins releases.old.counts pins
         → ((node : ℕ) → now node + one_release kept node ≡ pins node) → HavePins releases.new.counts now }
     ensures room { releases.old.room ≤ releases.new.room }
 {
     match kept {
-        Purpose::Release(opened) => releases.unpin(opened.nodeid),
+        Purpose::Release(opened) => releases.take(opened.nodeid),
         Purpose::Init | Purpose::Call(_) => {}
     }
 }

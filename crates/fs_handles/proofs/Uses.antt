@@ -16,7 +16,8 @@ use Rattle.fuse_spec.specs.Values.Maps.{values}
 use Rattle.fuse_spec.specs.Server.Nodes.{FileHandle}
 use Rattle.fs_handles.specs.declared.open_file.OpenFile.{OpenFile}
 use Rattle.fs_handles.specs.OpenNumbers.{handle_of, handles_of}
-use Rattle.fs_handles.specs.Uses.{handle_use_of, numbers_of, uses_or_none, uses_less, AreUsesCounted}
+use Rattle.fuse_tables.specs.Tallies.{one_less, positive}
+use Rattle.fs_handles.specs.Uses.{handle_use_of, numbers_of, AreUsesCounted}
 use Rattle.fuse_tables.proofs.Maps.{HasValue, any_is}
 use Rattle.fs_handles.proofs.Handles.{sorted_handles, get_there}
 
@@ -79,7 +80,7 @@ pub recounted : {opens : List (ℕ × OpenFile)} {uses : List (ℕ × ℕ)} {nex
     → ((q : ℕ) → lookup (nat_eq q) new ≡ cond (nat_eq fh q) (Some with) (lookup (nat_eq q) opens))
     → IsDistinct nat_eq (keys_of new) → length new ≡ length opens → AreUsesCounted new uses next
 recounted {opens = opens} {uses = uses} {next = next} new fh old with table is same set at distinct len = record {
-  counted = λ file. table.counted file ∙ ap uses_or_none (sym (as_many file));
+  counted = λ file. table.counted file ∙ ap positive (sym (as_many file));
   fresh = λ q le. at q ∙ fresh_at q le;
   distinct = distinct;
   few = (let few = table.few in omega arith);
@@ -103,7 +104,7 @@ pub ended : {opens : List (ℕ × OpenFile)} {uses : List (ℕ × ℕ)} {next : 
     (fewer : List (ℕ × ℕ)) (fh : ℕ) (old : OpenFile) → AreUsesCounted opens uses next
     → lookup (nat_eq fh) opens ≡ Some old → new ≡ swap_remove_entry (nat_eq fh) opens
     → ((q : ℕ) → lookup (nat_eq q) new ≡ cond (nat_eq fh q) None (lookup (nat_eq q) opens))
-    → ((q : ℕ) → lookup (nat_eq q) fewer ≡ cond (nat_eq old.file q) (uses_less (lookup (nat_eq old.file) uses))
+    → ((q : ℕ) → lookup (nat_eq q) fewer ≡ cond (nat_eq old.file q) (one_less (lookup (nat_eq old.file) uses))
     (lookup (nat_eq q) uses))
     → IsDistinct nat_eq (keys_of new) → length new ≤ length opens → AreUsesCounted new fewer next
 ended {opens = opens} {uses = uses} {next = next} new fewer fh old table is removed at less distinct len = record {
@@ -118,28 +119,28 @@ ended {opens = opens} {uses = uses} {next = next} new fewer fh old table is remo
     sums file =
         ap (λ es. numbers_of file es + handle_use_of file old) removed ∙ numbers-swap_remove file (nat_eq fh) opens old is
 
-    less_one : (n m : ℕ) → n + 1 ≡ m → uses_less (uses_or_none m) ≡ uses_or_none n
+    less_one : (n m : ℕ) → n + 1 ≡ m → one_less (positive m) ≡ positive n
     less_one n m e = grind (arith, e, rules)
 
-    counted_at : (file : ℕ) → cond (nat_eq old.file file) (uses_less (lookup (nat_eq old.file) uses))
-        (lookup (nat_eq file) uses) ≡ uses_or_none (numbers_of file new)
+    counted_at : (file : ℕ) → cond (nat_eq old.file file) (one_less (lookup (nat_eq old.file) uses))
+        (lookup (nat_eq file) uses) ≡ positive (numbers_of file new)
     counted_at file = elim (cases_eq old.file file) [
       | inl e ↦
           let one : handle_use_of file old ≡ 1 = grind (arith, e, rules) in
           let step = less_one (numbers_of file new) (numbers_of file opens) (omega (arith, sums file, one)) in
-          let same : lookup (nat_eq old.file) uses ≡ uses_or_none (numbers_of file opens) =
+          let same : lookup (nat_eq old.file) uses ≡ positive (numbers_of file opens) =
           ap (λ f. lookup (nat_eq f) uses) e ∙ table.counted file in
-          here file e ∙ ap uses_less same ∙ step
+          here file e ∙ ap one_less same ∙ step
       | inr ne ↦
           let none : handle_use_of file old ≡ 0 = grind (arith, ne, rules) in
-          there file ne ∙ table.counted file ∙ ap uses_or_none (omega (arith, sums file, none))
+          there file ne ∙ table.counted file ∙ ap positive (omega (arith, sums file, none))
     ]
       where
-        here : (file : ℕ) → old.file ≡ file → cond (nat_eq old.file file) (uses_less (lookup (nat_eq old.file) uses))
-            (lookup (nat_eq file) uses) ≡ uses_less (lookup (nat_eq old.file) uses)
+        here : (file : ℕ) → old.file ≡ file → cond (nat_eq old.file file) (one_less (lookup (nat_eq old.file) uses))
+            (lookup (nat_eq file) uses) ≡ one_less (lookup (nat_eq old.file) uses)
         here file e = grind (arith, e, rules)
 
-        there : (file : ℕ) → old.file ≢ file → cond (nat_eq old.file file) (uses_less (lookup (nat_eq old.file) uses))
+        there : (file : ℕ) → old.file ≢ file → cond (nat_eq old.file file) (one_less (lookup (nat_eq old.file) uses))
             (lookup (nat_eq file) uses) ≡ lookup (nat_eq file) uses
         there file ne = grind (arith, ne, rules)
 
@@ -172,21 +173,21 @@ given {opens = opens} {uses = uses} {next = next} new more file with table room 
         pushes (e ∷ es) = sum_by-cons (handle_use_of q) e.1 (values_of (es ++ (next, with) ∷ [])) ∙ omega
             (arith, pushes es, sum_by-cons (handle_use_of q) e.1 (values_of es))
 
-    more_one : (n m : ℕ) → m ≡ n + 1 → Some (unwrap_or (uses_or_none n) 0 + 1) ≡ uses_or_none m
+    more_one : (n m : ℕ) → m ≡ n + 1 → Some (unwrap_or (positive n) 0 + 1) ≡ positive m
     more_one n m e = grind (arith, e, rules)
 
     counted_at : (q : ℕ) → cond (nat_eq file q) (Some (unwrap_or (lookup (nat_eq file) uses) 0 + 1))
-        (lookup (nat_eq q) uses) ≡ uses_or_none (numbers_of q new)
+        (lookup (nat_eq q) uses) ≡ positive (numbers_of q new)
     counted_at q = elim (cases_eq file q) [
       | inl e ↦
           let one : handle_use_of q with ≡ 1 = grind (arith, e, same, rules) in
           let step = more_one (numbers_of q opens) (numbers_of q new) (omega (arith, sums q, one)) in
-          let has : lookup (nat_eq file) uses ≡ uses_or_none (numbers_of q opens) =
+          let has : lookup (nat_eq file) uses ≡ positive (numbers_of q opens) =
           ap (λ f. lookup (nat_eq f) uses) e ∙ table.counted q in
           here q e ∙ ap (λ o. Some (unwrap_or o 0 + 1)) has ∙ step
       | inr ne ↦
           let none : handle_use_of q with ≡ 0 = grind (arith, ne, same, rules) in
-          there q ne ∙ table.counted q ∙ ap uses_or_none (omega (arith, sums q, none))
+          there q ne ∙ table.counted q ∙ ap positive (omega (arith, sums q, none))
     ]
       where
         here : (q : ℕ) → file ≡ q → cond (nat_eq file q) (Some (unwrap_or (lookup (nat_eq file) uses) 0 + 1))
@@ -210,7 +211,7 @@ uses_few {opens = opens} {uses = uses} {next = next} file table =
     let is = ap (λ o. unwrap_or o 0) (table.counted file) ∙ value_of (numbers_of file opens) in
     omega (arith, few, most, is)
   where
-    value_of : (n : ℕ) → unwrap_or (uses_or_none n) 0 ≡ n
+    value_of : (n : ℕ) → unwrap_or (positive n) 0 ≡ n
     value_of n = grind (arith, rules)
 
     one_most : (opened : OpenFile) → handle_use_of file opened ≤ 1
@@ -226,10 +227,10 @@ pub without_twice : {X : Type 0} (b : Bool) (written there : Option X)
 without_twice true written there = refl
 without_twice false written there = refl
 
-some_is : (n : ℕ) → is_some (uses_or_none n) ≡ true → 0 < n
+some_is : (n : ℕ) → is_some (positive n) ≡ true → 0 < n
 some_is n some = grind (arith, some, rules)
 
-is_there : (n : ℕ) → 0 < n → is_some (uses_or_none n) ≡ true
+is_there : (n : ℕ) → 0 < n → is_some (positive n) ≡ true
 is_there n some = grind (arith, some, rules)
 
 -- a file has a count exactly where some file handle is of it
@@ -240,7 +241,7 @@ has_is {opens = opens} {uses = uses} answer file table is =
     any_is answer (handles_of opens) (λ (handle : FileHandle). nat_eq handle.file file)
     (sorted_handles opens) there back
   where
-    counted_is : answer ≡ is_some (uses_or_none (numbers_of file opens))
+    counted_is : answer ≡ is_some (positive (numbers_of file opens))
     counted_is = is ∙ ap is_some (table.counted file)
 
     there : answer ≡ true → HasValue (handles_of opens) (λ (handle : FileHandle). nat_eq handle.file file)

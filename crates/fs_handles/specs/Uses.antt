@@ -3,6 +3,7 @@ use Rattle.std.specs.Prelude.{◌≡◌, ℕ, ◌-◌, ◌<◌, ◌≤◌, cond,
 use Rattle.std.specs.List.{IsDistinct}
 use Rattle.std.specs.Map.{lookup, keys_of, values_of}
 use Rattle.fuse_spec.specs.Values.Numbers.{counter_end}
+use Rattle.fuse_tables.specs.Tallies.{positive}
 use Rattle.fs_handles.specs.declared.open_file.OpenFile.{OpenFile}
 
 -- 1 for a file handle of this file
@@ -13,18 +14,9 @@ handle_use_of file kept = cond (nat_eq kept.file file) 1 0
 abbrev pub numbers_of : ℕ → List (ℕ × OpenFile) → ℕ
 numbers_of file opens = sum_by (handle_use_of file) (values_of opens)
 
--- a number, or nothing in place of 0
-abbrev pub uses_or_none : ℕ → Option ℕ
-uses_or_none n = cond (nat_lt 0 n) (Some n) None
-
--- a number less one, and nothing for the last
-abbrev pub uses_less : Option ℕ → Option ℕ
-uses_less None = None
-uses_less (Some n) = uses_or_none (n - 1)
-
 -- Each file has the count of its file handles, and none from `next` on is in use.
 pub record AreUsesCounted (opens : List (ℕ × OpenFile)) (uses : List (ℕ × ℕ)) (next : ℕ) : Type 0 where
-  pub counted : (file : ℕ) → lookup (nat_eq file) uses ≡ uses_or_none (numbers_of file opens)
+  pub counted : (file : ℕ) → lookup (nat_eq file) uses ≡ positive (numbers_of file opens)
   pub fresh : (fh : ℕ) → next ≤ fh → lookup (nat_eq fh) opens ≡ None
   pub distinct : IsDistinct nat_eq (keys_of opens)
   pub few : length opens < next

@@ -7,10 +7,10 @@ ghost use Rattle.indexmap.specs.IndexMap.{spare};
 ghost use Rattle.fuse_spec.specs.Values.Maps.{get, values};
 ghost use Rattle.fuse_spec.specs.Server.Nodes.{FileHandle, handle_opened, handle_more, handle_back};
 ghost use Rattle.fuse_spec.specs.Values.Numbers.{counter_end};
-ghost use Rattle.fs_handles.specs.Uses.{uses_less};
 
 use crate::open_file::OpenFile;
 use fuse_spec::limits::COUNTER_END;
+use fuse_tables::Tally;
 use indexmap::IndexMap;
 use std::alloc::{AllocError, Allocator, Global};
 use std::hash::{BuildHasherDefault, FoldHasher};
@@ -27,8 +27,8 @@ type Builder = BuildHasherDefault<FoldHasher>;
 #[derive(Drop)]
 pub struct HandleTable<A: Allocator = Global> {
     opens: IndexMap<u64, OpenFile, Builder, A>,
-    // how many file handles each open file has
-    uses: IndexMap<u64, u64, Builder, A>,
+    /// How many file handles each open file has.
+    uses: Tally<A>,
     next: u64,
 }
 
@@ -43,9 +43,9 @@ impl<A: Allocator> Model for HandleTable<A> {
 
     ghost coded = { Prim.hlevel (codes) };
 
-    ghost view = { λ t. record { table = table_of t.opens.entries t.next; room = min (spare t.opens) (spare t.uses) } };
+    ghost view = { λ t. record { table = table_of t.opens.entries t.next; room = min (spare t.opens) t.uses.room } };
 
-    ghost invariant = { λ t. AreUsesCounted t.opens.entries t.uses.entries t.next };
+    ghost invariant = { λ t. AreUsesCounted t.opens.entries t.uses.counts t.next };
 }
 
 impl<A: Allocator + Copy> HandleTable<A> {
@@ -55,7 +55,7 @@ impl<A: Allocator + Copy> HandleTable<A> {
     {
         HandleTable {
             opens: IndexMap::new(alloc),
-            uses: IndexMap::new(alloc),
+            uses: Tally::new(alloc),
             next: 1,
         }
     }
@@ -93,8 +93,7 @@ impl<A: Allocator + Copy> HandleTable<A> {
     {
         let fh = self.next;
         put(&mut self.opens, fh, OpenFile { file, count: 1 });
-        let uses = self.uses.get(&file).copied().unwrap_or(0);
-        put(&mut self.uses, file, uses + 1);
+        self.uses.add(file);
         self.next = fh + 1;
         fh
     }
@@ -115,7 +114,7 @@ impl<A: Allocator + Copy> HandleTable<A> {
     pub fn has(&self, file: u64) -> bool
         ensures { result ≡ list_any (λ (handle : FileHandle). nat_eq handle.file file) (values self.now.table.handles) }
     {
-        self.uses.contains_key(&file)
+        self.uses.has(file)
     }
 
     /// Takes one from the count of a file handle. With none left it goes.
@@ -132,7 +131,7 @@ impl<A: Allocator + Copy> HandleTable<A> {
         }
         let file = open_file.file;
         let _last = self.opens.swap_remove(&fh);
-        use_less(&mut self.uses, file);
+        self.uses.take(file);
     }
 
     /// The file of a file handle.
@@ -162,18 +161,4 @@ fn put<V: Drop, A: Allocator + Copy>(entries: &mut IndexMap<u64, V, Builder, A>,
     ensures room { spare entries.old ≤ spare entries.new + 1 }
 {
     let _old = entries.insert(key, value).unwrap();
-}
-
-/// Takes one file handle of a file out of the count.
-fn use_less<A: Allocator + Copy>(uses: &mut IndexMap<u64, u64, Builder, A>, file: u64)
-    ensures less { (other : ℕ) → map.get nat_eq uses.new other
-        ≡ (if nat_eq file other then uses_less (map.get nat_eq uses.old file) else map.get nat_eq uses.old other) }
-    ensures room { spare uses.old ≤ spare uses.new }
-{
-    match uses.get_mut(&file) {
-        Some(count) if *count > 1 => *count -= 1,
-        _ => {
-            let _last = uses.swap_remove(&file);
-        }
-    }
 }

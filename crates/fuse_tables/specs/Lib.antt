@@ -3,3 +3,4 @@ pub mod LateValues
 pub mod Lends
 pub mod LiveRows
 pub mod TableState
+pub mod Tallies

@@ -9,8 +9,10 @@ mod queue;
 mod rising;
 mod rows_by_key;
 mod table;
+mod tally;
 
 pub use queue::{last, take_at};
 pub use rising::RisingTable;
 pub use rows_by_key::find_row;
 pub use table::Table;
+pub use tally::Tally;

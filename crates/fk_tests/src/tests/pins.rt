@@ -1,29 +1,29 @@
 //! Pins of nodes: of a table alone, and of the RELEASEs among the kernel's queues.
 
-use fk_opens::NodePins;
 use fk_queues::{IntrEffect, KernelQueues, NoMemory, QueueTable, Queues};
 use fuse_spec::{Opened, Purpose};
+use fuse_tables::Tally;
 use std::alloc::{AllocError, Allocator};
 use std::process::Abort;
 use std::test::Fail;
 
 /// Two pins of a node, which go one after the other: whether it is pinned before, between and after.
-fn pins_of_two<A: Allocator + Copy>(pins: &mut NodePins<A>) -> Result<[bool; 4], AllocError> {
+fn pins_of_two<A: Allocator + Copy>(pins: &mut Tally<A>) -> Result<[bool; 4], AllocError> {
     pins.clear();
     pins.reserve(2)?;
-    let before = pins.is_pinned(5);
-    pins.pin(5);
-    pins.pin(5);
-    pins.unpin(5);
-    let between = pins.is_pinned(5);
-    let other = pins.is_pinned(6);
-    pins.unpin(5);
-    Ok([before, between, other, pins.is_pinned(5)])
+    let before = pins.has(5);
+    pins.add(5);
+    pins.add(5);
+    pins.take(5);
+    let between = pins.has(5);
+    let other = pins.has(6);
+    pins.take(5);
+    Ok([before, between, other, pins.has(5)])
 }
 
 #[test]
 fn a_node_is_pinned_until_its_last_pin_goes(rt: HostRuntime) -> Result<(), Fail> {
-    let mut pins = NodePins::new(rt.alloc());
+    let mut pins = Tally::new(rt.alloc());
     assert!(rt; pins_of_two(&mut pins)? == [false, true, false, false]);
     Ok(())
 }

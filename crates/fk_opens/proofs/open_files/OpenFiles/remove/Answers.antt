@@ -12,4 +12,4 @@ pub invariant_of-self-2 : goal.invariant_of-self-2
 invariant_of-self-2 g c =
     let there = rw c.in_ok-opened.was at c.remove.ensures.value in
     rw c.remove.ensures.entries
-    (closed_one _ c.self.invariant _ c.args.number c.in_ok-opened.opened c.remove.ensures.sorted (sym there) c.unpin.ensures.less)
+    (closed_one _ c.self.invariant _ c.args.number c.in_ok-opened.opened c.remove.ensures.sorted (sym there) c.take.ensures.less)

@@ -7,4 +7,4 @@ pub returns : goal.returns
 returns g c =
     let es = (g.Q.QueueTable.state c.self.inside.queues).requests in
     rw (← c.self.view_is)
-    (c.is_pinned.ensures ∙ is_pinned_is c.self.invariant.pinned c.args.node ∙ is_releasing_is es c.args.node)
+    (c.has.ensures ∙ is_pinned_is c.self.invariant.pinned c.args.node ∙ is_releasing_is es c.args.node)

@@ -2,4 +2,4 @@ use Rattle.fs_handles.proofs.Uses.{has_is}
 use Rattle.fs_handles.proofs.handle_table.HandleTable.has.Goals as goal
 
 pub returns : goal.returns
-returns g c = rw (← c.self.view_is) (has_is c.contains_key.result c.args.file c.self.invariant c.contains_key.ensures)
+returns g c = rw (← c.self.view_is) (has_is c.has.result c.args.file c.self.invariant c.has.ensures)

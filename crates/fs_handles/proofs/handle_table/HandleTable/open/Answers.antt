@@ -5,25 +5,20 @@ use Rattle.fs_handles.proofs.Uses.{given, uses_few}
 use Rattle.indexmap.proofs.CallerLemmas.{insert_entry-new}
 use Rattle.fs_handles.proofs.handle_table.HandleTable.open.Goals as goal
 
-pub overflow_add-uses : goal.overflow_add-uses
-overflow_add-uses g c =
+pub add-requires-clause-small : goal.add-requires-clause-small
+add-requires-clause-small g c =
     let few = uses_few c.args.file c.self.invariant in
-    let is : c.unwrap_or-uses.result ≡ unwrap_or (lookup (nat_eq c.args.file) c.self.inside.uses.entries) 0 =
-    c.unwrap_or-uses.ensures ∙ ap (λ o. unwrap_or o 0) (c.copied.ensures ∙ c.get.ensures.value) in
     let limit = c.self.invariant.limit in
-    omega (arith, few, is, limit)
+    omega (arith, few, limit)
 
 pub invariant_of-self : goal.invariant_of-self
 invariant_of-self g c =
-    let is : c.unwrap_or-uses.result ≡ unwrap_or (lookup (nat_eq c.args.file) c.self.inside.uses.entries) 0 =
-    c.unwrap_or-uses.ensures ∙ ap (λ o. unwrap_or o 0) (c.copied.ensures ∙ c.get.ensures.value) in
     let numbers : c.self.inside.next < 2 ^ 62 = rw (← c.self.view_is) at c.requires.numbers in
-    given c.put.new.entries.entries c.put-2.new.entries.entries c.args.file _ c.self.invariant numbers refl
+    given c.put.new.entries.entries c.add.new.self.counts c.args.file _ c.self.invariant numbers refl
     (c.put.ensures.entries ∙ insert_entry-new nat_eq c.self.inside.opens c.self.inside.next _
     (c.self.invariant.fresh _ (omega arith)))
     c.put.ensures.at
-    (λ q. c.put-2.ensures.at q ∙ ap (λ n. cond (nat_eq c.args.file q) (Some (n + 1))
-    (lookup (nat_eq q) c.self.inside.uses.entries)) is)
+    c.add.ensures.more
     c.put.ensures.unique
 
 pub returns-clause-unused : goal.returns-clause-unused

@@ -32,7 +32,7 @@ invariant_of-self-2 g c =
     let at = (same.3 (ap is_some is)) in
     let table = recounted _ c.args.fh _ c.in-Some.open_file.now c.self.invariant is refl same.0 at.0 same.4 same.2 in
     let len = removed.len in
-    ended c.swap_remove-last.new.self.entries _ c.args.fh _ table at.1 removed.entries removed.updates.0 c.use_less.ensures.less removed.unique (omega (arith, len))
+    ended c.swap_remove-last.new.self.entries _ c.args.fh _ table at.1 removed.entries removed.updates.0 c.take.ensures.less removed.unique (omega (arith, len))
 
 pub returns-clause-table : goal.returns-clause-table
 returns-clause-table g c =

@@ -1,7 +1,7 @@
 use Rattle.std.proofs.Common.{◌≡◌, ◌∙◌, ap, refl, Option, Some, None, is_some, Bor}
 use Rattle.std.specs.Option.{option_copied}
-use Rattle.fk_opens.proofs.CountRows.{found}
-use Rattle.fk_opens.proofs.node_pins.NodePins.is_pinned.Goals as goal
+use Rattle.fuse_tables.proofs.CountRows.{found}
+use Rattle.fuse_tables.proofs.tally.Tally.has.Goals as goal
 
 read : {A : Type 0} (o : Option (Bor A)) → is_some o ≡ is_some (option_copied o)
 read None = refl
@@ -9,4 +9,4 @@ read (Some value) = refl
 
 pub returns : goal.returns
 returns g c = rw (← c.self.view_is) (c.is_some.ensures ∙ read c.get.result
-    ∙ ap is_some (c.get.ensures ∙ found c.self.inside.counts.entries c.args.node))
+    ∙ ap is_some (c.get.ensures ∙ found c.self.inside.counts.entries c.args.key))
