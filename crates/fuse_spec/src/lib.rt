@@ -114,6 +114,14 @@ pub struct Counted {
     pub count: u64,
 }
 
+/// A node as it is listed: its nodeid and generation, and its lookup count.
+#[derive(Clone, Copy, Debug, PartialEq, Eq)]
+pub struct NodeCount {
+    pub nodeid: u64,
+    pub generation: u64,
+    pub count: u64,
+}
+
 /// A cached name: the node to which it leads, if any, and the time in milliseconds from which it is valid no more.
 #[derive(Clone, Copy, Debug, PartialEq, Eq)]
 pub struct Dentry {
