@@ -1,8 +1,9 @@
 //! The kernel.
 
-ghost use Rattle.std.specs.Prelude.{◌≡◌, ◌<◌, ◌+◌, [], IfOk, T, false, map};
+ghost use Rattle.std.specs.Prelude.{◌≡◌, ◌<◌, ◌+◌, [], IfOk, T, false};
 ghost use Rattle.fuse_spec.specs.Kernel.Kernel.{is_live, is_aborted};
 ghost use Rattle.fuse_spec.specs.Kernel.Refusals.{is_ready, is_counted_out, is_kernel_past_end};
+ghost use Rattle.fk_lookup_count.specs.CountedNodes.{listed_counts};
 ghost use Rattle.fk_nodes.specs.LookedUp.{HaveCountsInRange};
 ghost use Rattle.std.specs.FinMap.{is_sorted};
 ghost use Rattle.std.specs.Ordering.{nat_cmp};
@@ -17,7 +18,7 @@ use fk_nodes::CountedNodes;
 use fk_opens::OpenFiles;
 use fk_queues::{KernelQueues, ListQueues, QueueTable, Queues};
 use fk_syscalls::CallState;
-use fuse_spec::{Minor, Opened, Phase, Purpose};
+use fuse_spec::{Minor, NodeCount, Opened, Phase, Purpose};
 use fuse_tables::Table;
 use std::alloc::{AllocError, Global};
 use std::marker::Model;
@@ -153,13 +154,13 @@ impl<Q: QueueTable<Purpose>, C: CountTable<Heap = Q::Heap>> KernelOf<Q, C> {
         is_phase_aborted(self.phase)
     }
 
-    /// Id, generation and lookup count of each counted node, in rising id.
+    /// The counted nodes, in rising id.
     ///
     /// # Errors
     ///
     /// Out of memory for the list.
-    pub fn nodes(&self, alloc: Q::Heap) -> Result<Vec<(u64, u64, u64), Q::Heap>, AllocError>
-        ensures { IfOk result (λ nodes. nodes.items ≡ map (λ e. (e.0, e.1.generation, e.1.count)) self.now.nodes) }
+    pub fn nodes(&self, alloc: Q::Heap) -> Result<Vec<NodeCount, Q::Heap>, AllocError>
+        ensures { IfOk result (λ nodes. nodes.items ≡ listed_counts self.now.nodes) }
     {
         self.nodes.list(alloc)
     }

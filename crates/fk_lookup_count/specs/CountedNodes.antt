@@ -2,6 +2,7 @@
 use Rattle.std.specs.Prelude.{◌≢◌, ℕ, ◌+◌, List, Option, Some, None, map}
 use Rattle.fuse_spec.specs.Values.Maps.{Map, put}
 use Rattle.fuse_spec.specs.declared.Counted.{Counted}
+use Rattle.fuse_spec.specs.declared.NodeCount.{NodeCount}
 use Rattle.fk_lookup_count.specs.declared.forget.Forget.{Forget}
 
 -- The id is counted under another generation.
@@ -19,6 +20,6 @@ abbrev pub forget_of : ℕ → Option Counted → Option Forget
 forget_of id None = None
 forget_of id (Some node) = Some (record { nodeid = id; nlookup = node.count })
 
--- Id, generation and lookup count of each node.
-abbrev pub listed_counts : Map Counted → List (ℕ × ℕ × ℕ)
-listed_counts nodes = map (λ e. (e.0, e.1.generation, e.1.count)) nodes
+-- Each counted node, with its generation and its lookup count.
+abbrev pub listed_counts : Map Counted → List NodeCount
+listed_counts nodes = map (λ e. record { nodeid = e.0; generation = e.1.generation; count = e.1.count }) nodes

@@ -9,7 +9,7 @@ ghost use Rattle.fk_lookup_count.specs.CountedNodes.{IsUnlike, counted_once_more
 
 use crate::forget::Forget;
 use crate::unlike::Unlike;
-use fuse_spec::Counted;
+use fuse_spec::{Counted, NodeCount};
 use std::alloc::{AllocError, Allocator};
 
 /// The counted nodes of the kernel. Node ids are the server's choice: any `u64`.
@@ -102,7 +102,7 @@ pub trait CountTable {
     /// # Errors
     ///
     /// Out of memory for the list.
-    fn nodes(&self, alloc: Self::Heap) -> Result<Vec<(u64, u64, u64), Self::Heap>, AllocError>
+    fn nodes(&self, alloc: Self::Heap) -> Result<Vec<NodeCount, Self::Heap>, AllocError>
         ensures { IfOk result (λ nodes. nodes.items ≡ listed_counts (counted self.now)) };
 
     /// Ends it. It is a drop, whose parts are so proved in this crate, and not in each that has one.

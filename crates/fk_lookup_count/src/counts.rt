@@ -8,7 +8,7 @@ use crate::count_table::CountTable;
 use crate::forget::Forget;
 use crate::slots::{ROOM, Slots};
 use crate::unlike::Unlike;
-use fuse_spec::Counted;
+use fuse_spec::{Counted, NodeCount};
 use std::alloc::AllocError;
 
 /// The counted nodes, in slots under their ids.
@@ -123,7 +123,7 @@ impl<S: Slots> CountTable for CountsOf<S> {
         self.slots.clear();
     }
 
-    fn nodes(&self, alloc: S::Heap) -> Result<Vec<(u64, u64, u64), S::Heap>, AllocError> {
+    fn nodes(&self, alloc: S::Heap) -> Result<Vec<NodeCount, S::Heap>, AllocError> {
         self.slots.nodes(alloc)
     }
 

@@ -8,7 +8,7 @@ ghost use Rattle.fk_lookup_count.specs.Slots.{slot_counted_more};
 ghost use Rattle.fk_lookup_count.specs.Table.{standing};
 
 use crate::slots::{ROOM, Slots, one_more};
-use fuse_spec::Counted;
+use fuse_spec::{Counted, NodeCount};
 use slab::Slab;
 use std::alloc::{AllocError, Allocator, Global};
 use std::collections::BTreeMap;
@@ -82,12 +82,16 @@ impl<A: Allocator + Copy> Slots for KernelSlots<A> {
         self.places.clear();
     }
 
-    fn nodes(&self, alloc: A) -> Result<Vec<(u64, u64, u64), A>, AllocError> {
+    fn nodes(&self, alloc: A) -> Result<Vec<NodeCount, A>, AllocError> {
         let mut nodes = Vec::new(alloc);
         for (id, place) in &self.places {
             let node = standing(&self.nodes, *place);
             if node.count > 0 {
-                nodes.push((*id, node.generation, node.count))?;
+                nodes.push(NodeCount {
+                    nodeid: *id,
+                    generation: node.generation,
+                    count: node.count,
+                })?;
             }
         }
         Ok(nodes)

@@ -1,7 +1,7 @@
 //! The plain slots, in a table.
 
 use crate::slots::{Slots, one_more};
-use fuse_spec::Counted;
+use fuse_spec::{Counted, NodeCount};
 use fuse_tables::Table;
 use std::alloc::{AllocError, Allocator, Global};
 use std::marker::Model;
@@ -68,12 +68,16 @@ impl<A: Allocator + Copy> Slots for ListSlots<A> {
         self.slots.clear();
     }
 
-    fn nodes(&self, alloc: A) -> Result<Vec<(u64, u64, u64), A>, AllocError> {
+    fn nodes(&self, alloc: A) -> Result<Vec<NodeCount, A>, AllocError> {
         self.slots.lemma_sound();
         let mut nodes = Vec::new(alloc);
         for row in self.slots.rows() {
             if row.1.count > 0 {
-                nodes.push((row.0, row.1.generation, row.1.count))?;
+                nodes.push(NodeCount {
+                    nodeid: row.0,
+                    generation: row.1.generation,
+                    count: row.1.count,
+                })?;
             }
         }
         Ok(nodes)

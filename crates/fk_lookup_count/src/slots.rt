@@ -7,7 +7,7 @@ ghost use Rattle.fuse_spec.specs.declared.Counted.{Counted};
 ghost use Rattle.fk_lookup_count.specs.CountedNodes.{listed_counts};
 ghost use Rattle.fk_lookup_count.specs.Slots.{nodes_in, slot_counted_more, slot_looked_up};
 
-use fuse_spec::Counted;
+use fuse_spec::{Counted, NodeCount};
 use std::alloc::{AllocError, Allocator};
 
 /// A slot that holds no node: room for one.
@@ -66,7 +66,7 @@ pub trait Slots {
     /// # Errors
     ///
     /// Out of memory for the list.
-    fn nodes(&self, alloc: Self::Heap) -> Result<Vec<(u64, u64, u64), Self::Heap>, AllocError>
+    fn nodes(&self, alloc: Self::Heap) -> Result<Vec<NodeCount, Self::Heap>, AllocError>
         ensures { IfOk result (λ nodes. nodes.items ≡ listed_counts (nodes_in (slots self.now))) };
 
     /// Ends it. It is a drop, whose parts are so proved in this crate, and not in each that has one.

@@ -1,6 +1,6 @@
 //! The nodes that the kernel counts.
 
-ghost use Rattle.std.specs.Prelude.{◌≡◌, ◌<◌, ◌+◌, ◌^◌, [], ◌∷◌, length, map, nat_le, option_map, OnOk, OnErr, IfOk, None, T, true, false};
+ghost use Rattle.std.specs.Prelude.{◌≡◌, ◌<◌, ◌+◌, ◌^◌, [], ◌∷◌, length, nat_le, option_map, OnOk, OnErr, IfOk, None, T, true, false};
 ghost use Rattle.std.specs.Option.{ForSome};
 ghost use Rattle.fuse_spec.specs.Values.Maps.{get, remove};
 ghost use Rattle.fuse_spec.specs.Values.Numbers.{counter_end};
@@ -10,6 +10,7 @@ ghost use Rattle.std.specs.Ordering.{nat_cmp};
 ghost use Rattle.fk_wire.specs.Records.{direntplus_content};
 ghost use Rattle.fuse_frames.specs.ReplyTies.{pair_in};
 ghost use Rattle.fuse_spec.specs.Files.Operations.{listed_by};
+ghost use Rattle.fk_lookup_count.specs.CountedNodes.{listed_counts};
 ghost use Rattle.fk_nodes.specs.LookedUp.{looked_up_from, LeavesBelow, HaveCountsInRange, SomeOut};
 ghost use Rattle.fk_nodes.specs.ListedFiles.{pairs_left_in};
 ghost use Rattle.fk_nodes.specs.Uses.{use_meant};
@@ -20,7 +21,7 @@ use crate::lookups::{count_all, lists_more_than, reserve_nodes};
 use fk_lookup_count::CountTable;
 use fk_wire::{DirentPlus, RecordsPlus};
 use fuse_spec::limits::COUNTER_END;
-use fuse_spec::{Counted, Entry};
+use fuse_spec::{Counted, Entry, NodeCount};
 use std::alloc::AllocError;
 use std::marker::Model;
 
@@ -40,7 +41,8 @@ impl<C: CountTable> Model for CountedNodes<C> {
     ghost use Rattle.fuse_spec.specs.declared.Counted.{Counted};
     ghost use Rattle.fuse_spec.specs.contracts.Counted as counted_row;
     ghost use Rattle.std.specs.Prelude.{◌≡◌, length};
-    ghost use Rattle.fk_nodes.specs.LookedUp.{AreAtMost};
+    ghost use Rattle.fk_lookup_count.specs.CountedNodes.{listed_counts};
+ghost use Rattle.fk_nodes.specs.LookedUp.{AreAtMost};
 
     ghost Value = { Map Counted };
 
@@ -233,13 +235,13 @@ impl<C: CountTable> CountedNodes<C> {
         self.most_lookups = 0;
     }
 
-    /// Id, generation and lookup count of each counted node, in rising id.
+    /// The counted nodes, in rising id.
     ///
     /// # Errors
     ///
     /// Out of memory for the list.
-    pub fn list(&self, alloc: C::Heap) -> Result<Vec<(u64, u64, u64), C::Heap>, AllocError>
-        ensures { IfOk result (λ nodes. nodes.items ≡ map (λ e. (e.0, e.1.generation, e.1.count)) self.now) }
+    pub fn list(&self, alloc: C::Heap) -> Result<Vec<NodeCount, C::Heap>, AllocError>
+        ensures { IfOk result (λ nodes. nodes.items ≡ listed_counts self.now) }
     {
         let _ = &self.len;
         self.table.nodes(alloc)

@@ -15,8 +15,8 @@ ghost use Rattle.fs_files.specs.Values.{no_nodes};
 
 use crate::held::{MOST_NAMES, NamedNode};
 use fs_nodes::NodeStore;
-use fuse_spec::Entry;
 use fuse_spec::limits::COUNTER_END;
+use fuse_spec::{Entry, NodeCount};
 use std::alloc::AllocError;
 use std::marker::Model;
 
@@ -329,7 +329,7 @@ impl<S: NodeStore> Nodes<S> {
     /// # Errors
     ///
     /// Out of memory.
-    pub fn nodes(&self, alloc: S::Heap) -> Result<Vec<(u64, u64, u64), S::Heap>, AllocError>
+    pub fn nodes(&self, alloc: S::Heap) -> Result<Vec<NodeCount, S::Heap>, AllocError>
         ensures { IfOk result (λ nodes. nodes.items ≡ listed_nodes self.now.table.rows) }
     {
         self.store.nodes(alloc)

@@ -12,6 +12,7 @@ use Rattle.std.proofs.lemmas.Bool.{cases_eq, eq-eqb, eqb-true}
 use Rattle.std.proofs.lemmas.Option.{none-some, same_Some}
 use Rattle.fuse_spec.specs.Values.Maps.{get, put, remove, values}
 use Rattle.fuse_spec.specs.Server.Nodes.{HeldNode}
+use Rattle.fuse_spec.specs.declared.NodeCount.{NodeCount}
 use Rattle.fuse_spec.proofs.Tables.{cmp_same, tie_no}
 use Rattle.fs_nodes.specs.declared.stored_node.StoredNode.{StoredNode}
 use Rattle.fs_nodes.specs.Rows.{node_of, IsOf, IsOfNone, listed_nodes}
@@ -260,15 +261,15 @@ small_entries k (Some kept ∷ rest) small = (
 )
 
 -- the nodes of a slab, each under its nodeid
-abbrev pub listed_places : List (ℕ × StoredNode) → List (ℕ × ℕ × ℕ)
+abbrev pub listed_places : List (ℕ × StoredNode) → List NodeCount
 listed_places [] = []
-listed_places (e ∷ es) = (e.0 + 2, e.1.generation, e.1.count) ∷ listed_places es
+listed_places (e ∷ es) = record { nodeid = e.0 + 2; generation = e.1.generation; count = e.1.count } ∷ listed_places es
 
 pub listed-rows_from : (k : ℕ) (slots : List (Option StoredNode))
     → listed_places (entries_from k slots) ≡ listed_nodes (rows_from (k + 2) slots)
 listed-rows_from k [] = refl
 listed-rows_from k (None ∷ rest) = listed-rows_from (k + 1) rest ∙ ap (λ j. listed_nodes (rows_from j rest)) (omega arith)
-listed-rows_from k (Some kept ∷ rest) = ap (λ es. (k + 2, kept.generation, kept.count) ∷ es)
+listed-rows_from k (Some kept ∷ rest) = ap (λ es. record { nodeid = k + 2; generation = kept.generation; count = kept.count } ∷ es)
     (listed-rows_from (k + 1) rest ∙ ap (λ j. listed_nodes (rows_from j rest)) (omega arith))
 
 -- a write of a node of the same file

@@ -2,6 +2,7 @@
 use Rattle.std.specs.Prelude.{◌≡◌, ◌≢◌, ◌≤◌, ℕ, List, Option, Some, None, map}
 use Rattle.fuse_spec.specs.Values.Maps.{Map, get}
 use Rattle.fuse_spec.specs.Server.Nodes.{HeldNode, NodeTable}
+use Rattle.fuse_spec.specs.declared.NodeCount.{NodeCount}
 use Rattle.fs_nodes.specs.declared.stored_node.StoredNode.{StoredNode}
 
 -- the nodes, and how many more files can be given a nodeid with no memory
@@ -37,6 +38,6 @@ abbrev pub HasCount : Option HeldNode → ℕ → Type 0
 HasCount None n = ⊥
 HasCount (Some row) n = n ≤ row.count
 
--- each nodeid with its generation and its count
-abbrev pub listed_nodes : Map HeldNode → List (ℕ × ℕ × ℕ)
-listed_nodes rows = map (λ e. (e.0, e.1.generation, e.1.count)) rows
+-- each held node, with its generation and its lookup count
+abbrev pub listed_nodes : Map HeldNode → List NodeCount
+listed_nodes rows = map (λ e. record { nodeid = e.0; generation = e.1.generation; count = e.1.count }) rows

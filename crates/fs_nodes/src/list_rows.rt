@@ -7,6 +7,7 @@ ghost use Rattle.fs_nodes.specs.Vacant.{AreVacant, is_kept_of};
 use crate::node_rows::NodeRows;
 use crate::places::{FIRST, place_of_node};
 use crate::stored_node::StoredNode;
+use fuse_spec::NodeCount;
 use std::alloc::{AllocError, Allocator, Global};
 
 /// Nodes in slots whose place plus 2 is the nodeid, and the vacant places, the one dropped last at the end.
@@ -87,7 +88,7 @@ impl<A: Allocator + Copy> NodeRows for ListRows<A> {
         self.dropped.clear();
     }
 
-    fn nodes(&self, alloc: A) -> Result<Vec<(u64, u64, u64), A>, AllocError> {
+    fn nodes(&self, alloc: A) -> Result<Vec<NodeCount, A>, AllocError> {
         list_slots(alloc, &self.slots)
     }
 
@@ -136,14 +137,18 @@ fn put_slot<A: Allocator>(
 fn list_slots<A: Allocator + Copy>(
     alloc: A,
     slots: &[Option<StoredNode>],
-) -> Result<Vec<(u64, u64, u64), A>, AllocError>
+) -> Result<Vec<NodeCount, A>, AllocError>
     requires { length slots.now < 2 ^ 63 }
     ensures { IfOk result (λ list. list.items ≡ listed_nodes (rows_from 2 slots.now)) }
 {
     let mut list = Vec::with_capacity(alloc, slots.len())?;
     for place in 0..slots.len() {
         if let Some(node) = slots[place] {
-            list.push((place as u64 + FIRST, node.generation, node.count))?;
+            list.push(NodeCount {
+                nodeid: place as u64 + FIRST,
+                generation: node.generation,
+                count: node.count,
+            })?;
         }
     }
     Ok(list)

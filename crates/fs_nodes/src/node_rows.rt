@@ -6,6 +6,7 @@ ghost use Rattle.fuse_spec.specs.Server.Nodes.{HeldNode};
 ghost use Rattle.fs_nodes.specs.Rows.{node_of, IsOf, IsOfNone, listed_nodes};
 
 use crate::stored_node::StoredNode;
+use fuse_spec::NodeCount;
 use std::alloc::{AllocError, Allocator};
 
 /// Nodes under nodeids from 2 up, one nodeid a file.
@@ -77,7 +78,7 @@ pub trait NodeRows {
     /// # Errors
     ///
     /// Out of memory.
-    fn nodes(&self, alloc: Self::Heap) -> Result<Vec<(u64, u64, u64), Self::Heap>, AllocError>
+    fn nodes(&self, alloc: Self::Heap) -> Result<Vec<NodeCount, Self::Heap>, AllocError>
         ensures { IfOk result (λ nodes. nodes.items ≡ listed_nodes (rows self.now)) };
 
     /// Ends it. It is a drop, whose parts are so proved in this crate, and not in each that has one.

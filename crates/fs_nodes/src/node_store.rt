@@ -9,6 +9,7 @@ ghost use Rattle.fs_nodes.specs.Rows.{generation_given, room_for, HasCount, list
 ghost use Rattle.fs_nodes.specs.Sound.{IsSoundNodeTable};
 
 use crate::too_many::TooMany;
+use fuse_spec::NodeCount;
 use std::alloc::{AllocError, Allocator};
 
 /// The nodes that a server holds, one nodeid a file. The root, nodeid 1, is always held and never among them.
@@ -105,7 +106,7 @@ pub trait NodeStore {
     /// # Errors
     ///
     /// Out of memory.
-    fn nodes(&self, alloc: Self::Heap) -> Result<Vec<(u64, u64, u64), Self::Heap>, AllocError>
+    fn nodes(&self, alloc: Self::Heap) -> Result<Vec<NodeCount, Self::Heap>, AllocError>
         ensures { IfOk result (λ nodes. nodes.items ≡ listed_nodes (table self.now).rows) };
 
     /// Nodeids rise from 2, no two have one file, each has a lookup, and its generation was given before the coming

@@ -4,6 +4,7 @@ use crate::node_rows::NodeRows;
 use crate::node_store::NodeStore;
 use crate::stored_node::StoredNode;
 use crate::too_many::TooMany;
+use fuse_spec::NodeCount;
 use fuse_spec::limits::COUNTER_END;
 use std::alloc::AllocError;
 use std::marker::Model;
@@ -131,7 +132,7 @@ impl<R: NodeRows> NodeStore for NodesOf<R> {
         self.rows.clear();
     }
 
-    fn nodes(&self, alloc: R::Heap) -> Result<Vec<(u64, u64, u64), R::Heap>, AllocError> {
+    fn nodes(&self, alloc: R::Heap) -> Result<Vec<NodeCount, R::Heap>, AllocError> {
         self.rows.nodes(alloc)
     }
 

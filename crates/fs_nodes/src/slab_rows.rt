@@ -12,6 +12,7 @@ ghost use Rattle.fs_nodes.specs.Slots.{rows_from, slot_file, room_of, AreSmall};
 use crate::node_rows::NodeRows;
 use crate::places::{FIRST, place_of_node};
 use crate::stored_node::StoredNode;
+use fuse_spec::NodeCount;
 use indexmap::IndexMap;
 use slab::Slab;
 use std::alloc::{AllocError, Allocator, Global};
@@ -95,7 +96,7 @@ impl<A: Allocator + Copy> NodeRows for SlabRows<A> {
         self.places.clear();
     }
 
-    fn nodes(&self, alloc: A) -> Result<Vec<(u64, u64, u64), A>, AllocError> {
+    fn nodes(&self, alloc: A) -> Result<Vec<NodeCount, A>, AllocError> {
         list_nodes(alloc, &self.nodes)
     }
 
@@ -106,13 +107,17 @@ impl<A: Allocator + Copy> NodeRows for SlabRows<A> {
 fn list_nodes<A: Allocator + Copy>(
     alloc: A,
     nodes: &Slab<StoredNode, A>,
-) -> Result<Vec<(u64, u64, u64), A>, AllocError>
+) -> Result<Vec<NodeCount, A>, AllocError>
     requires { AreSmall (entries nodes.now) }
     ensures { IfOk result (λ list. list.items ≡ listed_nodes (rows_from 2 nodes.now.slots)) }
 {
     let mut list = Vec::with_capacity(alloc, nodes.len())?;
     for (place, node) in nodes.iter() {
-        list.push((place as u64 + FIRST, node.generation, node.count))?;
+        list.push(NodeCount {
+            nodeid: place as u64 + FIRST,
+            generation: node.generation,
+            count: node.count,
+        })?;
     }
     Ok(list)
 }

@@ -12,7 +12,7 @@ use crate::replies::{KeptReply, SentCopy};
 use fs_files::{Files, HeldRequest};
 use fs_nodes::{ListNodes, NodeStore, NodeTable};
 use fuse_frames::Sent;
-use fuse_spec::{Minor, Validity};
+use fuse_spec::{Minor, NodeCount, Validity};
 use fuse_tables::RisingTable;
 use std::alloc::{AllocError, Allocator, Global};
 use std::marker::Model;
@@ -152,7 +152,7 @@ impl<S: NodeStore> ServerOf<S> {
     /// # Errors
     ///
     /// Out of memory.
-    pub fn nodes(&self, alloc: S::Heap) -> Result<Vec<(u64, u64, u64), S::Heap>, AllocError>
+    pub fn nodes(&self, alloc: S::Heap) -> Result<Vec<NodeCount, S::Heap>, AllocError>
         ensures { IfOk result (λ nodes. nodes.items ≡ listed_nodes self.now.nodes.rows) }
     {
         self.files.nodes().nodes(alloc)

@@ -15,6 +15,7 @@ mod tables;
 mod tree;
 
 use fail_at::WrongRow;
+use fuse_spec::NodeCount;
 use std::process::Abort;
 
 /// Asserts that each row came to what it must.
@@ -26,4 +27,17 @@ fn assert_right(rt: &impl Abort, wrong: Option<WrongRow>, name: &str) {
         wrong.is_none(),
         "{name}: row {row} of list {list}, with growth {growth} refused"
     );
+}
+
+/// Whether nodes are listed as these: their ids, generations and lookup counts.
+fn are_nodes(given: &[NodeCount], wanted: &[(u64, u64, u64)]) -> bool {
+    if given.len() != wanted.len() {
+        return false;
+    }
+    for (node, wanted) in given.iter().zip(wanted) {
+        if (node.nodeid, node.generation, node.count) != *wanted {
+            return false;
+        }
+    }
+    true
 }

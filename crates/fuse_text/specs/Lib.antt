@@ -1,5 +1,6 @@
 pub mod HexTexts
 pub mod Lines
+pub mod Nodes
 pub mod Outputs
 pub mod Printed
 pub mod Words

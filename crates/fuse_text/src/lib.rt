@@ -1,8 +1,9 @@
-//! Texts: the words of a line, numbers and hex, as they are read and written.
+//! Texts: the words of a line, numbers, hex and nodes, as they are read and written.
 #![tactic(auto)]
 
 mod hex_text;
 mod lines;
+mod node_text;
 mod number;
 mod output;
 mod printed;
@@ -14,6 +15,7 @@ pub use hex_text::{
     HexFault, is_hex, is_hex_or_none, read_hex, read_hex_or_none, write_hex, write_hex_or_none,
 };
 pub use lines::{LineError, next_line};
+pub use node_text::{write_node, write_nodes};
 pub use number::read_number;
 pub use output::{OutputRefused, write_number, write_text};
 pub use printed::{print_hex, print_hex_or_none, print_name};

@@ -1,9 +1,10 @@
 //! The row of an event.
 
 use crate::label::Column;
-use crate::nodes::{Node, put_changes};
+use crate::nodes::put_changes;
 use crate::picture::Picture;
 use crate::row_text::{put_event, put_record};
+use fuse_spec::NodeCount;
 use fw_world::{Event, Outcome, Record, Taken, WriteResult};
 use std::alloc::{AllocError, Allocator};
 
@@ -121,8 +122,8 @@ pub(crate) fn draw_nodes<A: Allocator + Copy>(
     picture: &mut Picture<A>,
     column: Column,
     y: u64,
-    before: &[Node],
-    after: &[Node],
+    before: &[NodeCount],
+    after: &[NodeCount],
     text: &mut Vec<u8, A>,
 ) -> Result<(), AllocError> {
     put_changes(text, before, after)?;

@@ -1,9 +1,9 @@
 //! The run that is drawn.
 
 use crate::label::Column;
-use crate::nodes::Node;
 use crate::picture::Picture;
 use crate::row::{draw_event, draw_nodes};
+use fuse_spec::NodeCount;
 use fuse_text::read_hex;
 use fw_script::{Line, is_passed_over, read_line};
 use fw_world::{Call, Event, Maps, Record, Tables, WorldOf, run};
@@ -17,8 +17,8 @@ struct Room<A: Allocator> {
     alloc: A,
     records: Vec<Record<A>, A>,
     text: Vec<u8, A>,
-    kernel_nodes: Vec<Node, A>,
-    server_nodes: Vec<Node, A>,
+    kernel_nodes: Vec<NodeCount, A>,
+    server_nodes: Vec<NodeCount, A>,
 }
 
 /// Runs an event.
@@ -36,8 +36,8 @@ fn draw_counts<A: Allocator + Copy>(
     picture: &mut Picture<A>,
     y: u64,
     room: &mut Room<A>,
-    kernel: Vec<Node, A>,
-    server: Vec<Node, A>,
+    kernel: Vec<NodeCount, A>,
+    server: Vec<NodeCount, A>,
 ) -> Result<(), AllocError> {
     let before = room.kernel_nodes.as_slice();
     draw_nodes(

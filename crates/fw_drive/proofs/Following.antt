@@ -16,8 +16,9 @@ use Rattle.fk_drive.specs.declared.end.NotSent.TheVariants.{Refused, Ended}
 use Rattle.fk_drive.proofs.Drivings.{drives_on, one_step}
 use Rattle.fk_drive.proofs.Sent.{picked_drives}
 use Rattle.fk_drive.proofs.WrittenNext.{next_drives}
-use Rattle.fw_script.specs.Records.{answer_text, nodes_text}
-use Rattle.fw_world.specs.Values.{counted_nodes}
+use Rattle.fuse_text.specs.Nodes.{nodes_text}
+use Rattle.fw_script.specs.Records.{answer_text}
+use Rattle.fk_lookup_count.specs.CountedNodes.{listed_counts}
 use Rattle.fw_world.specs.declared.event.Event.{Event}
 use Rattle.fw_world.specs.declared.event.Outcome.{Outcome}
 use Rattle.fw_drive.specs.Acts.{Acts}
@@ -433,14 +434,14 @@ module _ (A : Type 0) {D : Type 0} (logs : D → D → List Transfer → Type 0)
   -- the nodes were shown, and something was said, but nothing wrong, or printing failed
   pub shows_nodes : {T : Type 0} (d : D) (had has : Option (List ℕ)) (told : Bool) (driver : Driven) (r : Result T Stop)
       → IfErr r IsUnprinted → (Rest : Move A → Type 0) (said : List (Note A)) → All Rest (said_moves said)
-      → Gets r had has (nodes_text (codes "kernel") (counted_nodes driver.kernel.nodes) ++ notes_text said)
+      → Gets r had has (nodes_text (codes "kernel") (listed_counts driver.kernel.nodes) ++ notes_text said)
       → is_any_wrong said ≡ false → Goes A logs f d d (had, told) (has, told) driver driver r (FirstThen (IsMoveOf line.Show) Rest)
   shows_nodes d had has told driver r own Rest said rest printed right =
-      several A logs f d d (had, told) (has, told) driver driver driver idle [] (shows (counted_nodes driver.kernel.nodes))
-      (nodes_text (codes "kernel") (counted_nodes driver.kernel.nodes)) refl [] (IsMoveOf line.Show) Rest tt (stays d)
+      several A logs f d d (had, told) (has, told) driver driver driver idle [] (shows (listed_counts driver.kernel.nodes))
+      (nodes_text (codes "kernel") (listed_counts driver.kernel.nodes)) refl [] (IsMoveOf line.Show) Rest tt (stays d)
       (refl, refl, refl) (said_moves said) rest (said_on driver idle said) (notes_text said) (text_said f said) r
-      (went r (shows (counted_nodes driver.kernel.nodes) ∷ said_moves said) (own_result r own)
-      (All-cons (λ move. end_of move ≡ None) (shows (counted_nodes driver.kernel.nodes)) (said_moves said) refl (said_goes said)))
+      (went r (shows (listed_counts driver.kernel.nodes) ∷ said_moves said) (own_result r own)
+      (All-cons (λ move. end_of move ≡ None) (shows (listed_counts driver.kernel.nodes)) (said_moves said) refl (said_goes said)))
       (on_any r (◌≡◌ {A = Turn} idle idle) refl) (λ is. on_any r (IsSettled driver) is) printed refl
       (subst (λ (any : Bool). Tells r told told any) (sym (said_wrong said ∙ right)) (tells_nothing r told))
 

@@ -5,8 +5,8 @@ use Rattle.std.specs.Io.KnownBytes.{Keeps as KeepsContents}
 use Rattle.fuse_device.specs.Transfers.{Transfer}
 use Rattle.fk_drive.specs.Driving.{Driven, DrivesOver, first_driven}
 use Rattle.fuse_text.specs.Outputs.{AppendsSome}
-use Rattle.fw_script.specs.Records.{nodes_text}
-use Rattle.fw_world.specs.Values.{counted_nodes}
+use Rattle.fuse_text.specs.Nodes.{nodes_text}
+use Rattle.fk_lookup_count.specs.CountedNodes.{listed_counts}
 use Rattle.fw_drive.specs.DriveLines.{IsOfCalls}
 use Rattle.fw_drive.specs.Findings.{Told, end_status, is_any_wrong}
 use Rattle.fw_drive.specs.Notes.{Note, notes_text}
@@ -277,7 +277,7 @@ mounts_short form.CallsBeside = lit≤ tt
 -- the nodes were printed, and nothing wrong was said
 abbrev pub Shows : (A : Type 0) {T : Type 0} → (had has : Option (List ℕ)) → Driven → Result T Stop → Type 0
 Shows A had has driver r = (said : List (Note A))
-    × Gets r had has (nodes_text (codes "kernel") (counted_nodes driver.kernel.nodes) ++ notes_text said)
+    × Gets r had has (nodes_text (codes "kernel") (listed_counts driver.kernel.nodes) ++ notes_text said)
     × (is_any_wrong said ≡ false)
 
 module _ (A : Type 0) {D : Type 0} (logs : D → D → List Transfer → Type 0) (f : Form) where

@@ -1,5 +1,6 @@
 -- The moves of a driven run.
 use Rattle.std.specs.Prelude.{◌≡◌, ◌++◌, ◌∷◌, [], ℕ, List, All, Option, Some, None, Result, Ok, Err, slice_get}
+use Rattle.fuse_spec.specs.declared.NodeCount.{NodeCount}
 use Rattle.fuse_spec.specs.declared.Refusal.{Refusal}
 use Rattle.fuse_spec.specs.Kernel.Messages.{Request}
 use Rattle.fuse_spec.specs.Values.Maps.{remove}
@@ -15,7 +16,7 @@ use Rattle.fk_drive.specs.declared.end.DriveEnd.{DriveEnd}
 use Rattle.fk_drive.specs.declared.end.NotSent.{NotSent}
 use Rattle.fk_drive.specs.declared.end.NotSent.TheVariants.{Ended}
 use Rattle.fk_drive.specs.declared.writing.Written.{Written}
-use Rattle.fw_world.specs.Values.{counted_nodes}
+use Rattle.fk_lookup_count.specs.CountedNodes.{listed_counts}
 use Rattle.fw_world.specs.declared.event.Event.{Event}
 use Rattle.fw_world.specs.declared.event.Outcome.{Outcome}
 use Rattle.fw_drive.specs.Acts.{Acts}
@@ -32,7 +33,7 @@ pub data Move (A : Type 0) : Type 0 where
   -- The answer of a call is collected.
   collects : ℕ → Answer A → Move A
   -- The nodes are shown that the kernel counts.
-  shows : List (ℕ × ℕ × ℕ) → Move A
+  shows : List NodeCount → Move A
   -- Something else is said.
   notes : Note A → Move A
 
@@ -47,7 +48,7 @@ Moves old (collects call answer) log new =
     (log ≡ []) × (slice_get old.kernel.vfs.answers 0 ≡ Some (call, answer_of answer)) × (new ≡ record old {
       kernel = record old.kernel { vfs = record old.kernel.vfs { answers = remove old.kernel.vfs.answers call } };
     })
-Moves old (shows nodes) log new = (log ≡ []) × (nodes ≡ counted_nodes old.kernel.nodes) × (new ≡ old)
+Moves old (shows nodes) log new = (log ≡ []) × (nodes ≡ listed_counts old.kernel.nodes) × (new ≡ old)
 Moves old (notes note) log new = (log ≡ []) × (new ≡ old)
 
 -- no answer waits

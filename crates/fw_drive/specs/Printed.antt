@@ -8,7 +8,8 @@ use Rattle.fuse_spec.specs.Kernel.Messages.{Request}
 use Rattle.fk_drive.specs.declared.end.NotSent.TheVariants.{Refused, Ended}
 use Rattle.fk_drive.specs.declared.writing.Written.{Written}
 use Rattle.fuse_text.specs.Outputs.{AppendsSome}
-use Rattle.fw_script.specs.Records.{answer_text, nodes_text, record_text}
+use Rattle.fuse_text.specs.Nodes.{nodes_text}
+use Rattle.fw_script.specs.Records.{answer_text, record_text}
 use Rattle.fw_world.specs.declared.event.Outcome.{Outcome}
 use Rattle.fw_world.specs.declared.event.Outcome.TheVariants as outcome
 use Rattle.fw_world.specs.declared.record.Record.TheVariants as records

@@ -4,21 +4,22 @@ use Rattle.fuse_spec.specs.Calls.Answers as answer
 use Rattle.fuse_spec.specs.Calls.Paths.{Name}
 use Rattle.fuse_spec.specs.Files.Operations.{Dirent}
 use Rattle.fuse_spec.specs.Kernel.Kernel.{Kernel}
+use Rattle.fuse_spec.specs.declared.NodeCount.{NodeCount}
 use Rattle.fk_kernel.specs.Refused.{drop_refusal, evict_refusal}
-use Rattle.fw_world.specs.Values.{counted_nodes}
+use Rattle.fk_lookup_count.specs.CountedNodes.{listed_counts}
 
 -- This cached name may be dropped, or none may.
 abbrev pub IsDroppable : Kernel → Option (ℕ × Name) → Type 0
 IsDroppable kernel None = (directory : ℕ) (name : Name) → drop_refusal kernel directory name ≢ None
 IsDroppable kernel (Some name) = drop_refusal kernel name.0 name.1 ≡ None
 
--- the first of these nodes that may be evicted, each with its generation and its count
-abbrev pub first_unused : Kernel → List (ℕ × ℕ × ℕ) → Option ℕ
-first_unused kernel nodes = find (λ node. is_none (evict_refusal kernel node)) (map (λ node. node.0) nodes)
+-- the first of these nodes that may be evicted
+abbrev pub first_unused : Kernel → List NodeCount → Option ℕ
+first_unused kernel nodes = find (λ node. is_none (evict_refusal kernel node)) (map (λ node. node.nodeid) nodes)
 
 -- the first counted node that may be evicted
 abbrev pub first_evictable : Kernel → Option ℕ
-first_evictable kernel = first_unused kernel (counted_nodes kernel.nodes)
+first_evictable kernel = first_unused kernel (listed_counts kernel.nodes)
 
 -- ---- the names that an answer lists
 

@@ -7,7 +7,7 @@ ghost use Rattle.fk_syscalls.specs.Values.{answer_of};
 ghost use Rattle.fk_drive.specs.Driving.{Turn, first_driven, idle};
 ghost use Rattle.fk_drive.specs.Notings.{HasNoted};
 ghost use Rattle.fk_drive_frames.specs.declared.filling.FreeFields.{FreeFields as Fields};
-ghost use Rattle.fw_world.specs.Values.{counted_nodes};
+ghost use Rattle.fk_lookup_count.specs.CountedNodes.{listed_counts};
 ghost use Rattle.fw_drive.specs.Acts.{Acts};
 ghost use Rattle.fw_drive.specs.Moves.{Moves, sends, writes};
 ghost use Rattle.fw_drive.specs.Runs.{Keeps, at};
@@ -25,7 +25,7 @@ use fk_lookup_count::CountTable;
 use fk_queues::QueueTable;
 use fuse_device::Device;
 use fuse_frames::RequestFrame;
-use fuse_spec::{Dentry, Purpose, Refusal};
+use fuse_spec::{Dentry, NodeCount, Purpose, Refusal};
 use fw_world::{Event, Outcome, Tables};
 use std::alloc::{AllocError, Allocator};
 use std::marker::Model;
@@ -67,13 +67,13 @@ fn listed_to<A: Allocator>(answer: &Answer<A>) -> Option<u64>
 /// The first of these nodes that may be evicted.
 fn first_unused<Q: QueueTable<Purpose>, C: CountTable<Heap = Q::Heap>>(
     kernel: &KernelOf<Q, C>,
-    nodes: &[(u64, u64, u64)],
+    nodes: &[NodeCount],
 ) -> Option<u64>
     ensures { result ≡ views.first_unused kernel.now nodes.now }
 {
     for node in nodes {
-        if kernel.evict_refusal(node.0).is_none() {
-            return Some(node.0);
+        if kernel.evict_refusal(node.nodeid).is_none() {
+            return Some(node.nodeid);
         }
     }
     None
@@ -244,9 +244,9 @@ impl<T: Tables> Driver<T> {
         }
     }
 
-    /// The nodes that the kernel counts, each its id, its generation and its lookup count.
-    pub(crate) fn nodes(&self) -> Result<Vec<(u64, u64, u64), T::Heap>, AllocError>
-        ensures { IfOk result (λ nodes. nodes.items ≡ counted_nodes self.now.kernel.nodes) }
+    /// The nodes that the kernel counts, in rising id.
+    pub(crate) fn nodes(&self) -> Result<Vec<NodeCount, T::Heap>, AllocError>
+        ensures { IfOk result (λ nodes. nodes.items ≡ listed_counts self.now.kernel.nodes) }
     {
         self.kernel.nodes(self.alloc)
     }

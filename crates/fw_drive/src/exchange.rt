@@ -4,8 +4,8 @@ ghost use Rattle.std.specs.Prelude.{◌≡◌, ◌++◌, ◌||◌, [], ℕ, Bool
 ghost use Rattle.fuse_device.specs.Transfers.{Transfer};
 ghost use Rattle.fk_drive.specs.Driving.{Turn, idle};
 ghost use Rattle.fk_drive_frames.specs.declared.filling.FreeFields.{FreeFields as Fields};
-ghost use Rattle.fw_script.specs.Records.{nodes_text};
-ghost use Rattle.fw_world.specs.Values.{counted_nodes};
+ghost use Rattle.fuse_text.specs.Nodes.{nodes_text};
+ghost use Rattle.fk_lookup_count.specs.CountedNodes.{listed_counts};
 ghost use Rattle.fw_drive.specs.Findings.{Tells, Told, is_any_wrong};
 ghost use Rattle.fw_drive.specs.LineMoves.{FirstThen, IsCollected, IsEvent, IsSentBy, IsWritten, Perhaps};
 ghost use Rattle.fw_drive.specs.Moves.{Moves, sends, writes};
@@ -25,7 +25,7 @@ use fk_wire::{Opcode, ReplyHead};
 use fuse_device::Device;
 use fuse_frames::RequestFrame;
 use fuse_spec::WriteResult;
-use fw_script::write_nodes;
+use fuse_text::write_nodes;
 use fw_world::{Event, Outcome, Pick, Refusal, Tables};
 use std::alloc::Allocator;
 use std::io::Write;
@@ -312,7 +312,7 @@ pub(crate) fn receive<T: Tables, D: Device, W: Write>(
 /// Prints the nodes that the kernel counts.
 pub(crate) fn show<T: Tables, W: Write>(driver: &Driver<T>, out: &mut W) -> Result<(), Stop>
     ensures printed { Gets result (W.contents out.old) (W.contents out.new)
-        (nodes_text (codes "kernel") (counted_nodes driver.now.kernel.nodes)) }
+        (nodes_text (codes "kernel") (listed_counts driver.now.kernel.nodes)) }
     ensures own { IfErr result IsUnprinted }
 {
     match driver.nodes() {

@@ -1,8 +1,8 @@
 //! The lines of a script, one after another.
 
 ghost use Rattle.std.specs.Prelude.{◌≡◌, ◌++◌, All, IfErr, List, codes, false};
-ghost use Rattle.fw_script.specs.Records.{nodes_text};
-ghost use Rattle.fw_world.specs.Values.{counted_nodes};
+ghost use Rattle.fuse_text.specs.Nodes.{nodes_text};
+ghost use Rattle.fk_lookup_count.specs.CountedNodes.{listed_counts};
 ghost use Rattle.fw_drive.specs.Findings.{is_any_wrong};
 ghost use Rattle.fw_drive.specs.LineMoves.{FirstThen, IsCollected, IsMoveOf, LinesMoveAs, MayFollow, Perhaps, mount_lines};
 ghost use Rattle.fw_drive.specs.Notes.{Note, notes_text};
@@ -213,7 +213,7 @@ pub(crate) fn print_end<T: Tables, W: Write>(
     out: &mut W,
 ) -> Result<(), Stop>
     ensures printed { (said : List (Note T.Heap)) × Gets result (W.contents out.old) (W.contents out.new)
-        (nodes_text (codes "kernel") (counted_nodes driver.now.kernel.nodes) ++ notes_text said)
+        (nodes_text (codes "kernel") (listed_counts driver.now.kernel.nodes) ++ notes_text said)
         × (is_any_wrong said ≡ false) }
     ensures own { IfErr result IsUnprinted }
 {

@@ -2,7 +2,9 @@
 use Rattle.std.proofs.Common.{◌≡◌, ◌++◌, ℕ, Bool, true, false, List, [], ◌∷◌, Option, Result, Ok, Err, is_err, sym, subst, ◌∙◌, codes}
 use Rattle.std.specs.Prelude.{IfErr, OnErr, OnOk}
 use Rattle.std.specs.Result.{IsErrAnd}
-use Rattle.fw_script.specs.Records.{event_text, nodes_text}
+use Rattle.fuse_spec.specs.declared.NodeCount.{NodeCount}
+use Rattle.fuse_text.specs.Nodes.{nodes_text}
+use Rattle.fw_script.specs.Records.{event_text}
 use Rattle.fw_script.specs.Running.{EachLinePrints, LineEnds}
 use Rattle.fw_script.specs.Scripts.{IsPut, Machine, PrintsLine, LineSaysEvent, SaysShow, event, nodes}
 use Rattle.fw_script.specs.declared.stop.Stop.{Stop}
@@ -37,14 +39,14 @@ module _ {S A : Type 0} (m : Machine S A) (hex : Bool) where
       }
 
   -- the nodes of kernel and server
-  pub nodes_come : (s : S) (kernel server : List (ℕ × ℕ × ℕ)) → kernel ≡ m.counted s → server ≡ m.held s
+  pub nodes_come : (s : S) (kernel server : List NodeCount) → kernel ≡ m.counted s → server ≡ m.held s
       → EachLinePrints m hex s SaysShow (nodes_text (codes "kernel") kernel ++ nodes_text (codes "server") server) s
   nodes_come s kernel server counted held = record {
     events = [];
     records = [];
     prints =
         λ line shows.
-        subst (λ (x : List (ℕ × ℕ × ℕ) × List (ℕ × ℕ × ℕ)).
+        subst (λ (x : List NodeCount × List NodeCount).
         PrintsLine m hex s line [] [] (nodes_text (codes "kernel") x.0 ++ nodes_text (codes "server") x.1) s)
         (λ i. (sym counted i, sym held i)) (nodes shows);
   }

@@ -123,14 +123,6 @@ answer_words (answer.Failed errno) = decimal errno
 abbrev pub answer_text : {A : Type 0} → ℕ → Answer A → List ℕ
 answer_text call a = codes "answer " ++ decimal call ++ codes " " ++ answer_words a ++ codes "\n"
 
--- a node in a list of nodes: its id, its generation and its lookup count
-abbrev pub node_words : ℕ × ℕ × ℕ → List ℕ
-node_words node = codes " " ++ decimal node.0 ++ codes ":" ++ decimal node.1 ++ codes ":" ++ decimal node.2
-
--- the line of a side and its nodes
-abbrev pub nodes_text : List ℕ → List (ℕ × ℕ × ℕ) → List ℕ
-nodes_text side nodes = side ++ flat_map node_words nodes ++ codes "\n"
-
 -- a record's line
 abbrev pub record_text : {A : Type 0} → Record A → List ℕ
 record_text (records.Outcome o) = outcome_line o ++ codes "\n"

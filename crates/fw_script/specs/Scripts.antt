@@ -3,11 +3,15 @@ use Rattle.std.specs.Prelude.{◌≡◌, ◌+◌, ◌⊎◌, ◌++◌, ◌∷◌
 use Rattle.std.specs.Prelude.{IfSome}
 use Rattle.std.specs.Io.KnownBytes.{Appends}
 use Rattle.fuse_spec.specs.World.Worlds.{World, first_world}
+use Rattle.fuse_spec.specs.declared.NodeCount.{NodeCount}
+use Rattle.fk_lookup_count.specs.CountedNodes.{listed_counts}
+use Rattle.fs_nodes.specs.Rows.{listed_nodes}
 use Rattle.fw_link.specs.Traffic.{Traffic}
 use Rattle.fw_script.specs.Lines.{WordsFaultIs, LineHasWords}
 use Rattle.fuse_text.specs.Lines.{lines_of}
+use Rattle.fuse_text.specs.Nodes.{nodes_text}
 use Rattle.fuse_text.specs.Outputs.{AppendsSome}
-use Rattle.fw_script.specs.Records.{event_text, nodes_text}
+use Rattle.fw_script.specs.Records.{event_text}
 use Rattle.fuse_text.specs.Words.{words_of}
 use Rattle.fw_script.specs.declared.line.LineFault.{LineFault}
 use Rattle.fw_script.specs.declared.line.Line.{Line}
@@ -19,7 +23,7 @@ use Rattle.fw_world.specs.declared.record.Record.TheVariants as records
 use Rattle.fw_world.specs.Frames.{IsFrameOf}
 use Rattle.fw_world.specs.OverLinks.{RunsOver, RunsOneOver, session_of}
 use Rattle.fw_world.specs.Runs.{RunsAs, RunsOne}
-use Rattle.fw_world.specs.Values.{counted_nodes, event_of, held_nodes, run_record_of}
+use Rattle.fw_world.specs.Values.{event_of, run_record_of}
 
 -- ---- lines
 
@@ -60,8 +64,8 @@ SaysShow line = words_of line ≡ codes "show" ∷ []
 pub record Machine (S A : Type 0) : Type 1 where
   pub runs : S → Event → List (Record A) → S → Type 0
   pub puts : S → Outcome → Option (List ℕ) → Type 0
-  pub counted : S → List (ℕ × ℕ × ℕ)
-  pub held : S → List (ℕ × ℕ × ℕ)
+  pub counted : S → List NodeCount
+  pub held : S → List NodeCount
 
 -- The frame that is printed after an event with these records: under hex that of its outcome in the state after it.
 abbrev pub IsPut : {S A : Type 0} → Machine S A → Bool → S → List (Record A) → Option (List ℕ) → Type 0
@@ -95,8 +99,8 @@ abbrev pub world_machine : (A : Type 0) → Machine World A
 world_machine A = record {
   runs = RunsOne;
   puts = IsFrameOf;
-  counted = λ w. counted_nodes w.kernel.nodes;
-  held = λ w. held_nodes w.server.nodes.rows;
+  counted = λ w. listed_counts w.kernel.nodes;
+  held = λ w. listed_nodes w.server.nodes.rows;
 }
 
 -- A session over a link: its world, whether the link is lost, and the link.
@@ -106,8 +110,8 @@ session_machine A L carries failed = record {
       λ old event added new. RunsOneOver carries failed (session_of old.0 old.1, old.2) event added
       (session_of new.0 new.1, new.2);
   puts = λ s. IsFrameOf s.0;
-  counted = λ s. counted_nodes s.0.kernel.nodes;
-  held = λ s. held_nodes s.0.server.nodes.rows;
+  counted = λ s. listed_counts s.0.kernel.nodes;
+  held = λ s. listed_nodes s.0.server.nodes.rows;
 }
 
 -- This is printed of these lines, and the records that it has are those of one run of their events on a first world.

@@ -22,5 +22,5 @@ pub use line::{Line, LineFault, read_line};
 pub use lines::{Lines, is_passed_over};
 pub use print::{name_of_refusal, number_of_refusal, word_of_effect, word_of_kind};
 pub use records::write_record;
-pub use script::{Script, run_lists, run_over, run_script, write_nodes};
+pub use script::{Script, run_lists, run_over, run_script};
 pub use stop::{bad_line, cannot_read, no_memory, socket_failed};

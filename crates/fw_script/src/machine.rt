@@ -4,13 +4,14 @@ ghost use Rattle.std.specs.Prelude.{◌≡◌, ◌++◌, List, IfOk, OnErr, OnOk
 ghost use Rattle.fw_script.specs.Scripts.{Machine as MachineBy, session_machine, world_machine};
 ghost use Rattle.fw_world.specs.declared.record.Record.{Record as RecordValue};
 
+use fuse_spec::NodeCount;
 use fw_link::Link;
 use fw_world::{Event, Outcome, Record, SessionOf, SidesOf, Tables, WorldOf, run};
 use std::alloc::{AllocError, Allocator};
 use std::slice::from_ref;
 
-/// The nodes of one side: id, generation and lookup count of each.
-pub(crate) type Nodes<A> = Vec<(u64, u64, u64), A>;
+/// The nodes of one side.
+pub(crate) type Nodes<A> = Vec<NodeCount, A>;
 
 /// What runs events.
 pub(crate) trait Machine<A: Allocator> {

@@ -1,12 +1,13 @@
 //! The run of a script.
 
 ghost use Rattle.std.specs.Prelude.{◌≡◌, ◌≢◌, ◌⊎◌, ◌++◌, ◌∷◌, [], ℕ, List, Option, All, Contains, IfErr, IfOk, IfSome};
-ghost use Rattle.std.specs.Prelude.{Bool, true, false, OnErr, OnOk, codes, flat_map, option_map};
+ghost use Rattle.std.specs.Prelude.{Bool, true, false, OnErr, OnOk, codes, option_map};
 ghost use Rattle.std.specs.Io.KnownBytes.{Appends, Keeps};
 ghost use Rattle.fuse_text.specs.HexTexts.{IsHexOrNone};
 ghost use Rattle.fw_script.specs.Lines.{IsWritten, LineHasWords};
 ghost use Rattle.fuse_text.specs.Outputs.{AppendsSome};
-ghost use Rattle.fw_script.specs.Records.{event_text, node_words, nodes_text};
+ghost use Rattle.fuse_text.specs.Nodes.{nodes_text};
+ghost use Rattle.fw_script.specs.Records.{event_text};
 ghost use Rattle.fw_script.specs.Endings.{EndsScript};
 ghost use Rattle.fw_script.specs.Running.{InputEnds, IsEither, LineEnds, LinesEnd, OverEnds, ReadingEnds, RunEnds, Say};
 ghost use Rattle.fw_script.specs.Running.{SessionEnds, UnreadEnds};
@@ -21,7 +22,8 @@ use crate::lines::read_lines;
 use crate::machine::Machine;
 use crate::records::write_event;
 use crate::stop::Stop;
-use fuse_text::{OutputRefused, ShortText, read_hex_or_none, write_text};
+use fuse_spec::NodeCount;
+use fuse_text::{OutputRefused, read_hex_or_none, write_nodes};
 use fw_link::Link;
 use fw_world::{Call, Event, Lists, Maps, Record, SessionOf, Tables, WorldOf};
 use std::alloc::{AllocError, Allocator, Global};
@@ -114,56 +116,11 @@ fn event_of_write<'a, A: Allocator>(
     }))
 }
 
-/// Writes a node: its id, its generation and its lookup count.
-fn write_node<W: Write>(out: &mut W, node: (u64, u64, u64)) -> Result<(), OutputRefused>
-    ensures ok { OnOk result (Appends (W.contents out.old) (W.contents out.new) (node_words node)) }
-    ensures refused { OnErr result (AppendsSome (W.contents out.old) (W.contents out.new) (node_words node)) }
-{
-    let (id, generation, count) = node;
-    let mut text = ShortText::new();
-    text.put_number(count);
-    text.put_byte(b':');
-    text.put_number(generation);
-    text.put_byte(b':');
-    text.put_number(id);
-    text.put_byte(b' ');
-    write_text(out, text.bytes())
-}
-
-/// Writes nodes one after another.
-fn write_list<W: Write>(out: &mut W, nodes: &[(u64, u64, u64)]) -> Result<(), OutputRefused>
-    ensures ok { OnOk result (Appends (W.contents out.old) (W.contents out.new) (flat_map node_words nodes.now)) }
-    ensures refused { OnErr result (AppendsSome (W.contents out.old) (W.contents out.new) (flat_map node_words nodes.now)) }
-{
-    for node in nodes {
-        write_node(out, *node)?;
-    }
-    Ok(())
-}
-
-/// Writes the line of one side's nodes, each as ` ID:GENERATION:COUNT` behind the side's name.
-///
-/// # Errors
-///
-/// The output refused: it has a beginning of the line.
-pub fn write_nodes<W: Write>(
-    out: &mut W,
-    side: &[u8],
-    nodes: &[(u64, u64, u64)],
-) -> Result<(), OutputRefused>
-    ensures ok { OnOk result (Appends (W.contents out.old) (W.contents out.new) (nodes_text side.now nodes.now)) }
-    ensures refused { OnErr result (AppendsSome (W.contents out.old) (W.contents out.new) (nodes_text side.now nodes.now)) }
-{
-    write_text(out, side)?;
-    write_list(out, nodes)?;
-    write_text(out, b"\n")
-}
-
 /// Writes the lines of both sides' nodes.
 fn write_tables<W: Write>(
     out: &mut W,
-    kernel: &[(u64, u64, u64)],
-    server: &[(u64, u64, u64)],
+    kernel: &[NodeCount],
+    server: &[NodeCount],
 ) -> Result<(), OutputRefused>
     ensures ok { OnOk result (Appends (W.contents out.old) (W.contents out.new)
         (nodes_text (codes "kernel") kernel.now ++ nodes_text (codes "server") server.now)) }
@@ -177,8 +134,8 @@ fn write_tables<W: Write>(
 /// Writes these nodes, which the kernel counts and the server holds.
 fn show_nodes<A: Allocator + Copy, M: Machine<A>, W: Write>(
     machine: &M,
-    kernel: &[(u64, u64, u64)],
-    server: &[(u64, u64, u64)],
+    kernel: &[NodeCount],
+    server: &[NodeCount],
     out: &mut W,
 ) -> Result<(), Stop<'static>>
     requires counted { kernel.now ≡ M.acts.counted (M.state machine.now) }

@@ -1,7 +1,6 @@
 //! The program's command `serve`: the server before one device, from its mount to the end of the device.
 #![tactic(auto)]
 
-mod nodes_line;
 mod serving;
 mod traced;
 mod waiting;

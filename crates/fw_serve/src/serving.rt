@@ -4,12 +4,12 @@ ghost use Rattle.std.specs.Prelude.{◌≡◌, ◌≤◌, ◌⊎◌, ◌∷◌, 
 ghost use Rattle.fuse_spec.specs.Values.Numbers.{max_validity};
 ghost use Rattle.fw_serve.specs.Mounts.{ServesFrom, server_at_mount, end_status_of};
 
-use crate::nodes_line::write_nodes_line;
 use fs_nodes::{NodeStore, NodeTable};
 use fs_serve::serve;
 use fs_server::ServerOf;
 use fuse_device::{Device, DeviceEnd};
 use fuse_spec::{Minor, Validity};
+use fuse_text::{write_nodes, write_text};
 use served_sessions::served_is_unaccused;
 use std::alloc::{AllocError, Allocator};
 use std::io::Write;
@@ -54,8 +54,8 @@ fn mounted<S: NodeStore>(alloc: S::Heap, mount: Mount) -> Result<ServerOf<S>, Al
 /// `out` refuses is lost.
 fn show_nodes<S: NodeStore, W: Write>(alloc: S::Heap, server: &ServerOf<S>, out: &mut W) {
     let _shown = match server.nodes(alloc) {
-        Ok(nodes) => write_nodes_line(out, nodes.as_slice()),
-        Err(_) => writeln!(out, "no memory"),
+        Ok(nodes) => write_nodes(out, b"server", nodes.as_slice()),
+        Err(_) => write_text(out, b"no memory\n"),
     };
 }
 

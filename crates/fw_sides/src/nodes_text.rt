@@ -1,48 +1,40 @@
 //! The nodes of one side, printed.
 
 use crate::form::{Form, Printer};
+use fuse_spec::NodeCount;
+use fuse_text::write_nodes;
 use fw_script::OutputRefused;
 use std::io::Write;
 
-/// Prints a node: its id, its generation and its lookup count.
+/// Prints a node as a JSON object.
 fn print_node<W: Write>(
     printer: &mut Printer<'_, W>,
-    is_first: bool,
-    node: (u64, u64, u64),
+    node: NodeCount,
 ) -> Result<(), OutputRefused> {
-    let (id, generation, count) = node;
-    if printer.form() == Form::Words {
-        printer.put(b" ")?;
-        printer.put_number(id)?;
-        printer.put(b":")?;
-        printer.put_number(generation)?;
-        printer.put(b":")?;
-        return printer.put_number(count);
-    }
-    printer.put(if is_first {
-        b"{\"nodeid\":"
-    } else {
-        b",{\"nodeid\":"
-    })?;
-    printer.put_number(id)?;
+    printer.put(b"{\"nodeid\":")?;
+    printer.put_number(node.nodeid)?;
     printer.put(b",\"generation\":")?;
-    printer.put_number(generation)?;
+    printer.put_number(node.generation)?;
     printer.put(b",\"count\":")?;
-    printer.put_number(count)?;
+    printer.put_number(node.count)?;
     printer.put(b"}")
 }
 
-/// Prints nodes one after another.
+/// Prints nodes as a JSON list.
 fn print_list<W: Write>(
     printer: &mut Printer<'_, W>,
-    nodes: &[(u64, u64, u64)],
+    nodes: &[NodeCount],
 ) -> Result<(), OutputRefused> {
+    printer.put(b"[")?;
     let mut is_first = true;
     for node in nodes {
-        print_node(printer, is_first, *node)?;
+        if !is_first {
+            printer.put(b",")?;
+        }
+        print_node(printer, *node)?;
         is_first = false;
     }
-    Ok(())
+    printer.put(b"]")
 }
 
 /// Prints the nodes of one side, each its id, its generation and its lookup count.
@@ -54,16 +46,14 @@ pub(crate) fn print_nodes<W: Write>(
     out: &mut W,
     form: Form,
     side: &str,
-    nodes: &[(u64, u64, u64)],
+    nodes: &[NodeCount],
 ) -> Result<(), OutputRefused> {
+    if form == Form::Words {
+        return write_nodes(out, side.as_bytes(), nodes);
+    }
     let mut printer = Printer::new(out, form);
     printer.start(side)?;
-    if form == Form::Json {
-        printer.put(b",\"nodes\":[")?;
-    }
+    printer.put(b",\"nodes\":")?;
     print_list(&mut printer, nodes)?;
-    if form == Form::Json {
-        printer.put(b"]")?;
-    }
     printer.end()
 }

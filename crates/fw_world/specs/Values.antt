@@ -1,8 +1,5 @@
 -- What contracts see of events and records.
-use Rattle.std.specs.Prelude.{true, ℕ, false, List, [], ◌∷◌, ◌++◌, Option, Some, None, map}
-use Rattle.fuse_spec.specs.Values.Maps.{Map}
-use Rattle.fuse_spec.specs.Server.Nodes.{HeldNode}
-use Rattle.fuse_spec.specs.declared.Counted.{Counted}
+use Rattle.std.specs.Prelude.{true, false, List, [], ◌∷◌, ◌++◌, Option, Some, None}
 use Rattle.fuse_spec.specs.declared.Refusal.{Refusal}
 use Rattle.fuse_spec.specs.declared.Refusal.TheVariants.{NoMemory, NoSuch, Exhausted}
 use Rattle.fuse_spec.specs.World.Events as event
@@ -76,10 +73,3 @@ run_record_of (recorded.Outcome outcome) = record_of_run.outcome (outcome_of out
 run_record_of (recorded.Refused refusal) = record_of_run.refused refusal
 run_record_of recorded.LinkLost = record_of_run.link_lost
 run_record_of (recorded.Answered call answer) = record_of_run.answered call (answer_of answer)
-
--- each counted node with its generation and its count, and each held one
-abbrev pub counted_nodes : Map Counted → List (ℕ × ℕ × ℕ)
-counted_nodes nodes = map (λ e. (e.0, e.1.generation, e.1.count)) nodes
-
-abbrev pub held_nodes : Map HeldNode → List (ℕ × ℕ × ℕ)
-held_nodes rows = map (λ e. (e.0, e.1.generation, e.1.count)) rows

@@ -14,11 +14,13 @@ ghost use Rattle.fk_syscalls.specs.Values.{answer_of};
 ghost use Rattle.fw_link.specs.Carrying.{IsEmpty};
 ghost use Rattle.fuse_theorem.specs.SoundWorlds.{IsSoundWorld};
 ghost use Rattle.fw_world.specs.Frames.{IsFrameOf, IsLastPut, IsShown, IsShownAfter};
+ghost use Rattle.fk_lookup_count.specs.CountedNodes.{listed_counts};
+ghost use Rattle.fs_nodes.specs.Rows.{listed_nodes};
 ghost use Rattle.fw_world.specs.ListedNodes.{AreListed};
 ghost use Rattle.fw_world.specs.OverLinks.{StepsOver, session_of};
 ghost use Rattle.fw_world.specs.Runs.{call_collected};
 ghost use Rattle.fw_world.specs.Sends.{IsLostOn, IsOut, IsSent, LosesIn};
-ghost use Rattle.fw_world.specs.Values.{counted_nodes, event_of, held_nodes, outcome_of};
+ghost use Rattle.fw_world.specs.Values.{event_of, outcome_of};
 
 mod lists;
 
@@ -27,7 +29,7 @@ use crate::event::{Event, Outcome};
 use crate::sides::SidesOf;
 use crate::tables::{Maps, Tables};
 use fk_kernel::Answer;
-use fuse_spec::Refusal;
+use fuse_spec::{NodeCount, Refusal};
 use fw_link::{Carrier, Link};
 use std::alloc::{AllocError, Global};
 
@@ -232,8 +234,8 @@ impl<T: Tables, L: Link + Drop> SessionOf<T, L> {
     /// # Errors
     ///
     /// Where there is no memory for the list.
-    pub fn kernel_nodes(&self) -> Result<Vec<(u64, u64, u64), T::Heap>, AllocError>
-        ensures nodes { IfOk result (λ nodes. nodes.items ≡ counted_nodes self.now.world.kernel.nodes) }
+    pub fn kernel_nodes(&self) -> Result<Vec<NodeCount, T::Heap>, AllocError>
+        ensures nodes { IfOk result (λ nodes. nodes.items ≡ listed_counts self.now.world.kernel.nodes) }
         ensures listed { IfOk result (λ nodes. AreListed nodes.items) }
     {
         self.world.kernel_nodes()
@@ -244,8 +246,8 @@ impl<T: Tables, L: Link + Drop> SessionOf<T, L> {
     /// # Errors
     ///
     /// Where there is no memory for the list.
-    pub fn server_nodes(&self) -> Result<Vec<(u64, u64, u64), T::Heap>, AllocError>
-        ensures nodes { IfOk result (λ nodes. nodes.items ≡ held_nodes self.now.world.server.nodes.rows) }
+    pub fn server_nodes(&self) -> Result<Vec<NodeCount, T::Heap>, AllocError>
+        ensures nodes { IfOk result (λ nodes. nodes.items ≡ listed_nodes self.now.world.server.nodes.rows) }
         ensures listed { IfOk result (λ nodes. AreListed nodes.items) }
     {
         self.world.server_nodes()

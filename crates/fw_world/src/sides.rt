@@ -13,10 +13,12 @@ ghost use Rattle.fuse_spec.specs.declared.Refusal.TheVariants.{NoMemory};
 ghost use Rattle.fuse_theorem.specs.SoundWorlds.{IsSoundWorld};
 ghost use Rattle.fk_syscalls.specs.Values.{answer_of};
 ghost use Rattle.fw_world.specs.Frames.{IsFrameOf, IsShown};
+ghost use Rattle.fk_lookup_count.specs.CountedNodes.{listed_counts};
+ghost use Rattle.fs_nodes.specs.Rows.{listed_nodes};
 ghost use Rattle.fw_world.specs.ListedNodes.{AreListed};
 ghost use Rattle.fw_world.specs.Steps.{IsStep};
 ghost use Rattle.fw_world.specs.Runs.{StepsAs, call_collected};
-ghost use Rattle.fw_world.specs.Values.{counted_nodes, event_of, held_nodes, outcome_of};
+ghost use Rattle.fw_world.specs.Values.{event_of, outcome_of};
 
 mod counters;
 mod kernel_events;
@@ -31,7 +33,7 @@ use fk_kernel::{Answer, Call, KernelOf};
 use fs_server::ServerOf;
 use fuse_frames::{RequestFrame, Sent};
 use fuse_spec::limits::MAX_VALIDITY;
-use fuse_spec::{Minor, Refusal, ReplyResult, Taken};
+use fuse_spec::{Minor, NodeCount, Refusal, ReplyResult, Taken};
 use std::alloc::AllocError;
 use std::collections::VecDeque;
 use std::marker::Model;
@@ -209,13 +211,13 @@ impl<T: Tables> SidesOf<T> {
         }
     }
 
-    /// The nodes that the kernel counts, in rising id and without the root: id, generation and lookup count of each.
+    /// The nodes that the kernel counts, in rising id and without the root.
     ///
     /// # Errors
     ///
     /// Where there is no memory for the list.
-    pub fn kernel_nodes(&self) -> Result<Vec<(u64, u64, u64), T::Heap>, AllocError>
-        ensures nodes { IfOk result (λ nodes. nodes.items ≡ counted_nodes self.now.kernel.nodes) }
+    pub fn kernel_nodes(&self) -> Result<Vec<NodeCount, T::Heap>, AllocError>
+        ensures nodes { IfOk result (λ nodes. nodes.items ≡ listed_counts self.now.kernel.nodes) }
         ensures listed { IfOk result (λ nodes. AreListed nodes.items) }
     {
         self.lemma_protocol();
@@ -223,13 +225,13 @@ impl<T: Tables> SidesOf<T> {
         self.kernel.nodes(*self.requests.allocator())
     }
 
-    /// The nodes that the server holds, in rising id and without the root: id, generation and lookup count of each.
+    /// The nodes that the server holds, in rising id and without the root.
     ///
     /// # Errors
     ///
     /// Where there is no memory for the list.
-    pub fn server_nodes(&self) -> Result<Vec<(u64, u64, u64), T::Heap>, AllocError>
-        ensures nodes { IfOk result (λ nodes. nodes.items ≡ held_nodes self.now.server.nodes.rows) }
+    pub fn server_nodes(&self) -> Result<Vec<NodeCount, T::Heap>, AllocError>
+        ensures nodes { IfOk result (λ nodes. nodes.items ≡ listed_nodes self.now.server.nodes.rows) }
         ensures listed { IfOk result (λ nodes. AreListed nodes.items) }
     {
         self.lemma_protocol();

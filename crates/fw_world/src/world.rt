@@ -13,16 +13,18 @@ ghost use Rattle.fuse_spec.specs.declared.Refusal.TheVariants.{NoMemory};
 ghost use Rattle.fuse_theorem.specs.SoundWorlds.{IsSoundWorld};
 ghost use Rattle.fk_syscalls.specs.Values.{answer_of};
 ghost use Rattle.fw_world.specs.Frames.{IsFrameOf, IsLastPut, IsShown};
+ghost use Rattle.fk_lookup_count.specs.CountedNodes.{listed_counts};
+ghost use Rattle.fs_nodes.specs.Rows.{listed_nodes};
 ghost use Rattle.fw_world.specs.ListedNodes.{AreListed};
 ghost use Rattle.fw_world.specs.Runs.{StepsAs, call_collected};
 ghost use Rattle.fw_world.specs.Steps.{IsStep};
-ghost use Rattle.fw_world.specs.Values.{counted_nodes, event_of, held_nodes, outcome_of};
+ghost use Rattle.fw_world.specs.Values.{event_of, outcome_of};
 
 use crate::event::{Event, Outcome};
 use crate::sides::SidesOf;
 use crate::tables::{Lists, Maps, Tables};
 use fk_kernel::Answer;
-use fuse_spec::Refusal;
+use fuse_spec::{NodeCount, Refusal};
 use std::alloc::{AllocError, Global};
 
 /// One kernel, one server and the links between them, with what the last step came to, over any tables.
@@ -135,25 +137,25 @@ impl<T: Tables> WorldOf<T> {
         self.sides.frame_of(outcome)
     }
 
-    /// The nodes that the kernel counts, in rising id and without the root: id, generation and lookup count of each.
+    /// The nodes that the kernel counts, in rising id and without the root.
     ///
     /// # Errors
     ///
     /// Where there is no memory for the list.
-    pub fn kernel_nodes(&self) -> Result<Vec<(u64, u64, u64), T::Heap>, AllocError>
-        ensures nodes { IfOk result (λ nodes. nodes.items ≡ counted_nodes self.now.sides.kernel.nodes) }
+    pub fn kernel_nodes(&self) -> Result<Vec<NodeCount, T::Heap>, AllocError>
+        ensures nodes { IfOk result (λ nodes. nodes.items ≡ listed_counts self.now.sides.kernel.nodes) }
         ensures listed { IfOk result (λ nodes. AreListed nodes.items) }
     {
         self.sides.kernel_nodes()
     }
 
-    /// The nodes that the server holds, in rising id and without the root: id, generation and lookup count of each.
+    /// The nodes that the server holds, in rising id and without the root.
     ///
     /// # Errors
     ///
     /// Where there is no memory for the list.
-    pub fn server_nodes(&self) -> Result<Vec<(u64, u64, u64), T::Heap>, AllocError>
-        ensures nodes { IfOk result (λ nodes. nodes.items ≡ held_nodes self.now.sides.server.nodes.rows) }
+    pub fn server_nodes(&self) -> Result<Vec<NodeCount, T::Heap>, AllocError>
+        ensures nodes { IfOk result (λ nodes. nodes.items ≡ listed_nodes self.now.sides.server.nodes.rows) }
         ensures listed { IfOk result (λ nodes. AreListed nodes.items) }
     {
         self.sides.server_nodes()

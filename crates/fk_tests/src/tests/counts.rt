@@ -1,6 +1,6 @@
 //! Counted nodes over both representations: each call once, and refused growths.
 
-use crate::tests::assert_right;
+use crate::tests::{are_nodes, assert_right};
 use fail_at::{FailAt, Outcome, Tried, first_wrong, judged};
 use fk_lookup_count::{CountTable, Forget, KernelNodes, ListCounts, Unlike};
 use std::alloc::{AllocError, Allocator, Global};
@@ -59,7 +59,7 @@ fn is_node<T: CountTable>(table: &T, id: u64, wanted: Option<(u64, u64)>) -> boo
 
 fn lists<T: CountTable>(table: &T, heap: T::Heap, wanted: &[(u64, u64, u64)]) -> Outcome {
     match table.nodes(heap) {
-        Ok(nodes) => judged(nodes.as_slice() == wanted),
+        Ok(nodes) => judged(are_nodes(&nodes, wanted)),
         Err(AllocError) => Outcome::NoMemory,
     }
 }

@@ -1,7 +1,7 @@
 //! Steps of a kernel over any tables, and what each must give: a method that is called of a kernel over maps
 //! takes some six seconds more to check.
 
-use crate::tests::assert_right;
+use crate::tests::{are_nodes, assert_right};
 use crate::tests::digits::{spells, unhex};
 use crate::tests::listings::{Listed, are_names};
 use fail_at::{FailAt, Outcome, Tried, first_wrong, judged};
@@ -326,7 +326,7 @@ fn lists<Q: RequestQueues, C: LookupCounts<Heap = Q::Heap>>(
     nodes: &[(u64, u64, u64)],
 ) -> Outcome {
     match kernel.nodes(heap) {
-        Ok(given) => judged(given.as_slice() == nodes),
+        Ok(given) => judged(are_nodes(&given, nodes)),
         Err(AllocError) => Outcome::NoMemory,
     }
 }

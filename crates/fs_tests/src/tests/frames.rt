@@ -1,6 +1,6 @@
 //! Steps of a server over frames, and what each must give.
 
-use crate::tests::assert_right;
+use crate::tests::{are_nodes, assert_right};
 use fail_at::{FailAt, Outcome, Tried, first_wrong, judged};
 use fk_wire::{Request, RequestBody, write_request};
 use fs_nodes::{ListNodes, NodeStore, NodeTable};
@@ -243,7 +243,7 @@ fn copies_again<S: NodeStore>(
 fn lists<S: NodeStore>(server: &ServerOf<S>, heap: S::Heap, nodes: &[(u64, u64, u64)]) -> Outcome {
     server.lemma_sound();
     match server.nodes(heap) {
-        Ok(given) => judged(given.as_slice() == nodes),
+        Ok(given) => judged(are_nodes(&given, nodes)),
         Err(AllocError) => Outcome::NoMemory,
     }
 }

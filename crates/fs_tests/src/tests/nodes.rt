@@ -1,6 +1,6 @@
 //! Held nodes over both representations: each call once, the order of nodeids, and refused growths.
 
-use crate::tests::assert_right;
+use crate::tests::{are_nodes, assert_right};
 use fail_at::{FailAt, Outcome, Tried, first_wrong, judged};
 use fs_nodes::{ListNodes, NodeStore, NodeTable, TooMany};
 use fuse_spec::limits::COUNTER_END;
@@ -61,7 +61,7 @@ fn given(node_given: Result<(u64, u64), AllocError>, wanted: (u64, u64)) -> Outc
 
 fn lists<S: NodeStore>(store: &S, heap: S::Heap, wanted: &[(u64, u64, u64)]) -> Outcome {
     match store.nodes(heap) {
-        Ok(nodes) => judged(nodes.as_slice() == wanted),
+        Ok(nodes) => judged(are_nodes(&nodes, wanted)),
         Err(AllocError) => Outcome::NoMemory,
     }
 }

@@ -1,7 +1,7 @@
 //! Lists of random events, each run on a world over maps and slabs and on one over plain lists.
 
-use super::growths::write_nodes;
 use super::machine::{Machine, MachineTest, try_on_list_world, try_on_world};
+use fuse_text::write_nodes;
 use fw_script::write_record;
 use fw_world::{Call, Event, Minor, Outcome, Pick, Record};
 use std::alloc::{AllocError, Allocator, Global};
@@ -211,7 +211,7 @@ fn print_nodes<W: Machine<Global>>(world: &W, out: &mut Vec<u8>) -> bool {
     let (Ok(counted), Ok(held)) = (world.kernel_nodes(), world.server_nodes()) else {
         return false;
     };
-    write_nodes(out, "kernel", &counted).is_ok() && write_nodes(out, "server", &held).is_ok()
+    write_nodes(out, b"kernel", &counted).is_ok() && write_nodes(out, b"server", &held).is_ok()
 }
 
 /// Runs one list on a world, and prints its records and the nodes with which it ends.

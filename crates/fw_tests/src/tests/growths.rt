@@ -4,7 +4,7 @@
 use super::machine::{Machine, MachineTest, try_on_list_world, try_on_session, try_on_world};
 use super::rows::{Row, lists};
 use fail_at::FailAt;
-use fuse_text::read_hex;
+use fuse_text::{read_hex, write_nodes};
 use fw_script::{Line, OutputRefused, read_line, write_hex, write_record};
 use fw_world::{Call, Event, Outcome, Record, Refusal};
 use std::alloc::{AllocError, Allocator, Global};
@@ -103,19 +103,6 @@ fn no_room(_: OutputRefused) -> io::Error {
     io::Error::from(ErrorKind::OutOfMemory)
 }
 
-/// The nodes of one side as they are printed.
-pub(super) fn write_nodes(
-    out: &mut Vec<u8>,
-    side: &str,
-    nodes: &[(u64, u64, u64)],
-) -> io::Result<()> {
-    write!(out, "{side}")?;
-    for (node, generation, count) in nodes {
-        write!(out, " {node}:{generation}:{count}")?;
-    }
-    writeln!(out)
-}
-
 /// Prints the nodes of both sides. No growth is refused meanwhile.
 fn write_both<A: Allocator + Copy, W: Machine<A>>(
     heap: &FailAt<Global>,
@@ -125,10 +112,10 @@ fn write_both<A: Allocator + Copy, W: Machine<A>>(
     let left = heap.left();
     heap.refuse(0);
     if let Ok(nodes) = world.kernel_nodes() {
-        write_nodes(out, "kernel", &nodes)?;
+        write_nodes(out, b"kernel", &nodes).map_err(no_room)?;
     }
     if let Ok(nodes) = world.server_nodes() {
-        write_nodes(out, "server", &nodes)?;
+        write_nodes(out, b"server", &nodes).map_err(no_room)?;
     }
     heap.refuse(left);
     Ok(())

@@ -1,5 +1,6 @@
 //! Worlds over any tables and sessions over a link in memory, as tests of events see them.
 
+use fuse_spec::NodeCount;
 use fw_link::MemoryLink;
 use fw_world::{
     Answer, Event, Lists, Maps, Outcome, Record, Refusal, SessionOf, Tables, WorldOf, run,
@@ -23,9 +24,9 @@ pub(super) trait Machine<A: Allocator + Copy>: Sized {
 
     fn frame_of(&self, outcome: &Outcome) -> Option<&[u8]>;
 
-    fn kernel_nodes(&self) -> Result<Vec<(u64, u64, u64), A>, AllocError>;
+    fn kernel_nodes(&self) -> Result<Vec<NodeCount, A>, AllocError>;
 
-    fn server_nodes(&self) -> Result<Vec<(u64, u64, u64), A>, AllocError>;
+    fn server_nodes(&self) -> Result<Vec<NodeCount, A>, AllocError>;
 }
 
 impl<T: Tables> Machine<T::Heap> for WorldOf<T> {
@@ -61,11 +62,11 @@ impl<T: Tables> Machine<T::Heap> for WorldOf<T> {
         WorldOf::frame_of(self, outcome)
     }
 
-    fn kernel_nodes(&self) -> Result<Vec<(u64, u64, u64), T::Heap>, AllocError> {
+    fn kernel_nodes(&self) -> Result<Vec<NodeCount, T::Heap>, AllocError> {
         WorldOf::kernel_nodes(self)
     }
 
-    fn server_nodes(&self) -> Result<Vec<(u64, u64, u64), T::Heap>, AllocError> {
+    fn server_nodes(&self) -> Result<Vec<NodeCount, T::Heap>, AllocError> {
         WorldOf::server_nodes(self)
     }
 }
@@ -104,11 +105,11 @@ impl<T: Tables> Machine<T::Heap> for SessionOf<T, MemoryLink<T::Heap>> {
         SessionOf::frame_of(self, outcome)
     }
 
-    fn kernel_nodes(&self) -> Result<Vec<(u64, u64, u64), T::Heap>, AllocError> {
+    fn kernel_nodes(&self) -> Result<Vec<NodeCount, T::Heap>, AllocError> {
         SessionOf::kernel_nodes(self)
     }
 
-    fn server_nodes(&self) -> Result<Vec<(u64, u64, u64), T::Heap>, AllocError> {
+    fn server_nodes(&self) -> Result<Vec<NodeCount, T::Heap>, AllocError> {
         SessionOf::server_nodes(self)
     }
 }

@@ -3,6 +3,7 @@
 use crate::tests::serve::session::{frames_of, lent, serve_device};
 use fk_wire::RequestBody;
 use fuse_device::ListDevice;
+use fuse_spec::NodeCount;
 use std::alloc::{AllocError, Global};
 use std::test::Fail;
 
@@ -27,7 +28,7 @@ fn batch_forget(alloc: Global, pairs: u32, count: u32) -> Result<Vec<u8>, AllocE
 }
 
 /// The nodes that are left after node 2 was looked up so often, and then forgotten by this frame.
-fn left_after(alloc: Global, told: usize, batch: Vec<u8>) -> Result<Vec<(u64, u64, u64)>, Fail> {
+fn left_after(alloc: Global, told: usize, batch: Vec<u8>) -> Result<Vec<NodeCount>, Fail> {
     let mut requests = vec![in alloc; (1, RequestBody::Lookup { name: b"a" }); told]?;
     if let Some(first) = requests.first_mut() {
         *first = (1, RequestBody::Mkdir { name: b"a" });
@@ -54,7 +55,7 @@ fn long_batches_are_forgotten(rt: HostRuntime) -> Result<(), Fail> {
         (200, 200, 64, 200),
     ] {
         let nodes = left_after(alloc, told, batch_forget(alloc, pairs, count)?)?;
-        let counted = nodes.first().map_or(0, |(_, _, count)| *count);
+        let counted = nodes.first().map_or(0, |node| node.count);
         assert_eq!(rt; counted, left, "{pairs} pairs");
     }
     Ok(())

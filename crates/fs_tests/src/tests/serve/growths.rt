@@ -4,6 +4,7 @@ use crate::tests::serve::session::{lent, serve_device, session};
 use crate::tests::serve::told::{Told, told_by};
 use fail_at::FailAt;
 use fuse_device::ListDevice;
+use fuse_spec::NodeCount;
 use std::alloc::{AllocError, Global};
 use std::process::Abort;
 use std::test::Fail;
@@ -20,12 +21,13 @@ fn refusals(told: &Told) -> usize {
 }
 
 /// Asserts that each of the seven requests was answered, and each node counted as often as it was given.
-fn assert_counts(rt: &impl Abort, nodes: &[(u64, u64, u64)], told: &Told, turn: u64) {
+fn assert_counts(rt: &impl Abort, nodes: &[NodeCount], told: &Told, turn: u64) {
     assert_eq!(rt; told.errors.len(), 7, "turn {turn}");
     let mut counts = 0u64;
-    for (nodeid, _generation, count) in nodes {
-        assert_eq!(rt; *count, told.count(*nodeid), "turn {turn}, node {nodeid}");
-        counts = counts.wrapping_add(*count);
+    for node in nodes {
+        let nodeid = node.nodeid;
+        assert_eq!(rt; node.count, told.count(nodeid), "turn {turn}, node {nodeid}");
+        counts = counts.wrapping_add(node.count);
     }
     assert_eq!(rt; counts, told.nodes.len() as u64, "turn {turn}");
 }

@@ -1,5 +1,5 @@
 use Rattle.std.proofs.Common.{codes, refl}
-use Rattle.fw_script.specs.Records.{nodes_text}
+use Rattle.fuse_text.specs.Nodes.{nodes_text}
 use Rattle.fuse_text.proofs.Writes.{OnErr-always, refused_then, some_first}
 use Rattle.fw_script.proofs.script.write_tables.Goals as goal
 
