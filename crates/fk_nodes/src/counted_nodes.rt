@@ -42,7 +42,7 @@ impl<C: CountTable> Model for CountedNodes<C> {
     ghost use Rattle.fuse_spec.specs.contracts.Counted as counted_row;
     ghost use Rattle.std.specs.Prelude.{◌≡◌, length};
     ghost use Rattle.fk_lookup_count.specs.CountedNodes.{listed_counts};
-ghost use Rattle.fk_nodes.specs.LookedUp.{AreAtMost};
+    ghost use Rattle.fk_nodes.specs.LookedUp.{AreAtMost};
 
     ghost Value = { Map Counted };
 

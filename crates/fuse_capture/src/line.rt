@@ -1,6 +1,9 @@
 //! What a line says, and what is wrong with one that says nothing.
 
+ghost use Rattle.fuse_capture.specs.Faults.{capture_fault_words};
+
 use fuse_sessions::Taken;
+use fuse_text::LineFaultWords;
 use thiserror::Error;
 
 /// A frame, as a line has it.
@@ -31,14 +34,24 @@ pub enum CaptureLine<'a> {
 
 /// What is wrong with a line of a capture.
 #[derive(Clone, Copy, Debug, Drop, PartialEq, Eq, Error)]
+#[error("{}", self.words())]
 pub enum CaptureFault {
     /// The line begins with none of `>`, `<` and `=`.
-    #[error("unknown direction")]
     UnknownDirection,
     /// The words after that are not those of any line.
-    #[error("wrong words")]
     WrongWords,
     /// The frame is not one or more pairs of hex digits.
-    #[error("bad hex")]
     BadHex,
+}
+
+impl LineFaultWords for CaptureFault {
+    ghost words = { capture_fault_words };
+
+    fn words(&self) -> &'static str {
+        match *self {
+            CaptureFault::UnknownDirection => "unknown direction",
+            CaptureFault::WrongWords => "wrong words",
+            CaptureFault::BadHex => "bad hex",
+        }
+    }
 }

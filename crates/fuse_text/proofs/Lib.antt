@@ -3,4 +3,5 @@ pub mod Digits
 pub mod Hexes
 mod LineFeeds
 pub mod Splitting
+pub mod Statuses
 pub mod Writes

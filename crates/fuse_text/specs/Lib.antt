@@ -3,4 +3,5 @@ pub mod Lines
 pub mod Nodes
 pub mod Outputs
 pub mod Printed
+pub mod Stops
 pub mod Words

@@ -9,6 +9,7 @@ mod output;
 mod printed;
 mod short_text;
 mod split;
+mod stop;
 mod word;
 
 pub use hex_text::{
@@ -21,4 +22,8 @@ pub use output::{OutputRefused, write_number, write_text};
 pub use printed::{print_hex, print_hex_or_none, print_name};
 pub use short_text::ShortText;
 pub use split::{find_far, find_near, split_at, split_at_first};
+pub use stop::{
+    BAD_INPUT, FAULTS, LOST, LineFaultWords, NO_MEMORY, OUTPUT_REFUSED, Stop, bad_line,
+    cannot_read, no_memory, socket_failed,
+};
 pub use word::{Words, one_word, split_word, three_words, two_words};

@@ -6,9 +6,9 @@ ghost use Rattle.fuseworld.specs.Statuses.{capture_statuses};
 
 use crate::output::standard_output;
 use crate::reason::cannot_open;
+use fuse_text::no_memory;
 use fw_check::{CheckOptions, run_check};
 use fw_decode::run_decode;
-use fw_script::no_memory;
 use fw_sequence::draw_capture;
 use std::alloc::Allocator;
 use std::fs::File;

@@ -5,7 +5,7 @@ ghost use Rattle.std.specs.Prelude.{◌∷◌, [], Contains};
 use crate::capture::{CaptureTask, run_capture};
 use crate::doing::{InputTask, do_task};
 use crate::output::standard_output;
-use fw_script::{cannot_read, no_memory};
+use fuse_text::{cannot_read, no_memory};
 use std::fs::File;
 use std::io::{BufWriter, ErrorKind};
 

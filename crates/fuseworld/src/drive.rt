@@ -12,6 +12,7 @@ use crate::reason::{cannot_open, cannot_write, no_socket};
 use crate::saying::SayingWriter;
 use crate::timed_socket::{Deadline, connect};
 use fuse_device::{Device, PacketDevice, StreamDevice};
+use fuse_text::no_memory;
 use fw_call_names::{NamedLines, plain_script};
 use fw_drive::{
     DriveTrace, FreeFields, InputLines, Task, judge_script, read_script, run_drive, run_source,
@@ -21,7 +22,6 @@ use fw_json::JsonLines;
 use fw_judged::JudgedServer;
 use fw_output::{LimitedWriter, room_in_file};
 use fw_random::{Choice, Commented, RandomLines};
-use fw_script::no_memory;
 use fw_tasks::{DriveTask, misfit};
 use std::alloc::Global;
 use std::fs::File;

@@ -2,10 +2,8 @@
 
 ghost use Rattle.std.specs.Prelude.{◌≡◌, ◌<◌, ◌+◌, ◌⊎◌};
 
+use fuse_text::FAULTS;
 use fw_judged::FaultCounts;
-
-/// Somebody broke a rule.
-const FAULTS: u8 = 6;
 
 /// The exit status of a run whose faults were counted: 6 where somebody broke a rule, and it ended well else.
 pub fn status_with(status: u8, faults: FaultCounts) -> u8

@@ -5,8 +5,8 @@ ghost use Rattle.fuseworld.specs.ServeStatuses.{drive_statuses};
 
 use crate::output::standard_output;
 use crate::reason::cannot_open;
+use fuse_text::no_memory;
 use fw_orders::{Wanted, print_orders};
-use fw_script::no_memory;
 use fw_tasks::DriveTask;
 use std::fs::File;
 use std::io::{BufWriter, ErrorKind};

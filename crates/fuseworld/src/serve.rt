@@ -6,10 +6,10 @@ ghost use Rattle.fuseworld.specs.ServeStatuses.{captured_statuses, serve_statuse
 use crate::judged::status_with;
 use crate::reason::{cannot_write, no_socket};
 use fuse_device::{Device, PacketDevice, StreamDevice};
+use fuse_text::no_memory;
 use fw_capture::CapturedDevice;
 use fw_judged::JudgedDevice;
 use fw_output::{LimitedWriter, room_in_file};
-use fw_script::no_memory;
 use fw_serve::{TracedDevice, WaitingReader, WaitingWriter, serve_device};
 use fw_tasks::ServeTask;
 use std::fs::File;

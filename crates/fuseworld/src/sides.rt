@@ -3,7 +3,7 @@
 ghost use Rattle.std.specs.Prelude.{◌∷◌, [], Contains};
 
 use crate::output::standard_output;
-use fw_script::{cannot_read, no_memory};
+use fuse_text::{cannot_read, no_memory};
 use fw_sides::{End, run_kernel, run_server};
 use fw_tasks::SideTask;
 use std::io::{BufReader, BufWriter};

@@ -3,8 +3,9 @@
 ghost use Rattle.std.specs.Prelude.{◌∷◌, [], Contains};
 
 use crate::output::standard_output;
+use fuse_text::{no_memory, socket_failed};
 use fw_link::StreamLink;
-use fw_script::{Script, no_memory, socket_failed};
+use fw_script::Script;
 use std::io::{BufWriter, ErrorKind};
 use std::os::unix::net::{UnixListener, UnixStream};
 use std::{fs, io};

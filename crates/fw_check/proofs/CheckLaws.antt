@@ -18,8 +18,9 @@ use Rattle.fw_check.specs.declared.options.CheckForm.{CheckForm}
 use Rattle.fw_check.specs.declared.options.CheckForm.TheVariants.{Json, Words}
 use Rattle.fw_check.specs.declared.options.CheckOptions.{CheckOptions}
 use Rattle.fw_check.specs.declared.remains.Remains.{Remains}
-use Rattle.fw_check.specs.declared.stop.Stop.{Stop}
-use Rattle.fw_check.specs.declared.stop.Stop.TheVariants.{BadLine, CannotRead, NoMemory, OutputRefused}
+use Rattle.fuse_capture.specs.declared.line.CaptureFault.{CaptureFault}
+use Rattle.fuse_text.specs.declared.stop.Stop.{Stop}
+use Rattle.fuse_text.specs.declared.stop.Stop.TheVariants.{BadLine, CannotRead, NoMemory, OutputRefused}
 use Rattle.fw_check.specs.Asked.{asked_verdicts}
 use Rattle.fw_check.specs.Checks.{Judged, Checks, passed_over, says, no_line, nothing_judged, counts_of, end_text, start_in}
 use Rattle.fuse_text.specs.Lines.{lines_of}
@@ -129,7 +130,7 @@ module _ (o : CheckOptions) (lines : List (List ℕ)) (j : Judged) (line : List 
   one_more : ChecksMore o (lines ++ line ∷ []) j after_line text_of_line
   one_more = record { checks = said_checks o lines j line l shown verdicts judge c checks so is at; text = refl }
 
-next_said : {T : Type 0} (o : CheckOptions) (r : Result T Stop) (lines : List (List ℕ)) (j : Judged) (line : List ℕ)
+next_said : {T : Type 0} (o : CheckOptions) (r : Result T (Stop CaptureFault)) (lines : List (List ℕ)) (j : Judged) (line : List ℕ)
     (l : CaptureLine) (judge : SeenState) (c : Counts) (had has : Option (List ℕ)) → Checks o lines j
     → ((t : Transfer) → IsTransferOf l t → LineSays line t) → ((t : Transfer) → IsTransferOf l t → LineTimeIs line t (line_time l))
     → SaidEnds o j (length lines + 1) l judge c r had has → LineEnds o lines j line judge c r had has
@@ -154,7 +155,7 @@ next_said o (Err NoMemory) lines j line l judge c had has checks said at h = h
 next_said o (Err CannotRead) lines j line l judge c had has checks said at h = absurd h
 next_said o (Err (BadLine n f)) lines j line l judge c had has checks said at h = absurd h
 
-pub line_said : {T : Type 0} (o : CheckOptions) (r : Result T Stop) (lines : List (List ℕ)) (j : Judged) (line : List ℕ) (number : ℕ)
+pub line_said : {T : Type 0} (o : CheckOptions) (r : Result T (Stop CaptureFault)) (lines : List (List ℕ)) (j : Judged) (line : List ℕ) (number : ℕ)
     (l : CaptureLine) (judge : SeenState) (c : Counts) (had has : Option (List ℕ)) → Checks o lines j
     → ((t : Transfer) → IsTransferOf l t → LineSays line t) → ((t : Transfer) → IsTransferOf l t → LineTimeIs line t (line_time l))
     → number ≡ length lines + 1
@@ -218,7 +219,7 @@ module _ (o : CheckOptions) (capture : List ℕ) (known left : Option (List ℕ)
 
   -- the line is not done
   pub next_stopped : (is_more : Bool) (line : List ℕ) (later : SeenState) (counts : Counts) (has : Option (List ℕ))
-      (s : Stop) → IfSome known (λ bytes. IsTaken bytes is_more line left)
+      (s : Stop CaptureFault) → IfSome known (λ bytes. IsTaken bytes is_more line left)
       → LineEnds {T = Unit {0}} o upto.done upto.judged line later counts (Err s) mid has → StopsIn o capture s had has
   next_stopped is_more line later counts has (BadLine n f) taken (number_is, is, still) =
       let next = next_is upto.rest is_more line left
@@ -254,7 +255,7 @@ module _ (o : CheckOptions) (capture : List ℕ) (known left : Option (List ℕ)
       }
 
   -- the next line cannot be read
-  pub next_unread : (s : Stop) → (s ≡ CannotRead) ⊎ (s ≡ NoMemory) → StopsIn o capture s had mid
+  pub next_unread : (s : Stop CaptureFault) → (s ≡ CannotRead) ⊎ (s ≡ NoMemory) → StopsIn o capture s had mid
   next_unread s (inl is) = rw is record {
     done = upto.done;
     rest = lines_of upto.rest;
@@ -377,7 +378,7 @@ ends_are o n j judge c kept lefts =
     (counts_are o.form n j c kept.counts ∙ ap (λ k. counts_text o.form k (counts_of j)) (lefts kept.start j.transfers j.acts kept.seen kept.stands))
     ∙ ap (λ e. closing_text o e (remains_of j.acts) (counts_of j)) (sym kept.exchanges)
 
-pub all_ends : {T : Type 0} (o : CheckOptions) (n : Remains) (r : Result T Stop) (capture : List ℕ) (judge : SeenState)
+pub all_ends : {T : Type 0} (o : CheckOptions) (n : Remains) (r : Result T (Stop CaptureFault)) (capture : List ℕ) (judge : SeenState)
     (c : Counts) (had mid has : Option (List ℕ)) → AreLeft judge.session judge.nodes judge.files n → AllChecked o capture judge c had mid
     → PrintsEnd o judge.exchanges n c r mid has → CheckEnds o capture c r had has
 all_ends o n (Ok done) capture judge c had mid has lefts all appends =

@@ -1,14 +1,18 @@
 -- How a check ends, by its exit status.
-use Rattle.std.proofs.Common.{◌≡◌, ◌<◌, ◌+◌, ℕ, Bool, true, false, if◌then◌else◌, List, [], ◌∷◌, Option, append-nil, arith, refl, sym, inl, inr}
+use Rattle.std.proofs.Common.{◌≡◌, ◌≢◌, ◌++◌, ◌<◌, ◌+◌, ℕ, Bool, true, false, if◌then◌else◌, List, [], ◌∷◌, Option, append-nil, arith, codes, refl, sym, inl, inr}
 use Rattle.std.specs.Prelude.{Contains}
 use Rattle.fw_check.specs.declared.counts.Counts.{Counts}
 use Rattle.fw_check.specs.declared.options.CheckOptions.{CheckOptions}
-use Rattle.fw_check.specs.declared.stop.Stop.{Stop}
-use Rattle.fw_check.specs.declared.stop.Stop.TheVariants.{BadLine, CannotRead, NoMemory, OutputRefused}
+use Rattle.fuse_text.specs.declared.stop.Stop.{Stop}
+use Rattle.fuse_text.specs.declared.stop.Stop.TheVariants.{BadLine, CannotRead, NoMemory, OutputRefused}
 use Rattle.fw_check.specs.Checks.{Judged, finding_count}
 use Rattle.fw_check.specs.Endings.{PrintsChecked}
 use Rattle.fuse_text.specs.Lines.{lines_of}
-use Rattle.fw_check.specs.Running.{AllPrinted, AreCounts, IsReported, StopsIn}
+use Rattle.fuse_text.specs.Outputs.{AppendsSome}
+use Rattle.fuse_text.specs.Stops.{status_of, stop_line}
+use Rattle.fuse_capture.specs.Faults.{capture_fault_words}
+use Rattle.fuse_capture.specs.declared.line.CaptureFault.{CaptureFault}
+use Rattle.fw_check.specs.Running.{AllPrinted, AreCounts, StopsIn}
 
 -- the counts that are kept are those of what was found
 right_of : (is_strict : Bool) (c : Counts) (j : Judged) → AreCounts j c
@@ -59,10 +63,11 @@ ends_with_faults o name capture c had has faults said all some = record {
 }
 
 -- it was stopped
-pub stops : (o : CheckOptions) (s : Stop) (name capture : List ℕ) (had has faults said : Option (List ℕ)) (status : ℕ)
-    → StopsIn o capture s had has → IsReported s name faults said status
-    → PrintsChecked o name capture had has faults said status
-stops o CannotRead name capture had has faults said status at (inl (is, some)) = rw is record {
+pub stops : (o : CheckOptions) (s : Stop CaptureFault) (name capture : List ℕ) (had has faults said : Option (List ℕ))
+    → StopsIn o capture s had has
+    → (status_of s ≢ 5 → AppendsSome faults said (stop_line capture_fault_words name s ++ codes "\n"))
+    → PrintsChecked o name capture had has faults said (status_of s)
+stops o CannotRead name capture had has faults said at says = record {
   done = at.done;
   rest = at.rest;
   lines = at.lines;
@@ -72,10 +77,25 @@ stops o CannotRead name capture had has faults said status at (inl (is, some)) =
   right = λ e. absurd (omega arith);
   wrong = λ e. absurd (omega arith);
   begun = λ e. at.says;
-  bad = λ e. inl some;
+  bad = λ e. inl (says (λ five. cc five));
   refused = λ e. absurd (omega arith);
 }
-stops o CannotRead name capture had has faults said status at (inr is) = rw is record {
+stops o (BadLine n f) name capture had has faults said at says =
+    let (line, after, rest, bad, number, printed) = at.says in
+    record {
+      done = at.done;
+      rest = at.rest;
+      lines = at.lines;
+      judged = at.judged;
+      checks = at.checks;
+      ended = λ e. elim e [ inl zero ↦ absurd (omega arith) | inr six ↦ absurd (omega arith) ];
+      right = λ e. absurd (omega arith);
+      wrong = λ e. absurd (omega arith);
+      begun = λ e. printed;
+      bad = λ e. inr (line, after, f, rest, bad, rw number at (says (λ five. cc five)));
+      refused = λ e. absurd (omega arith);
+    }
+stops o NoMemory name capture had has faults said at says = record {
   done = at.done;
   rest = at.rest;
   lines = at.lines;
@@ -88,50 +108,7 @@ stops o CannotRead name capture had has faults said status at (inr is) = rw is r
   bad = λ e. absurd (omega arith);
   refused = λ e. absurd (omega arith);
 }
-stops o (BadLine n f) name capture had has faults said status at (inl (is, some)) =
-    let (line, after, rest, bad, number, printed) = at.says in
-    rw is record {
-      done = at.done;
-      rest = at.rest;
-      lines = at.lines;
-      judged = at.judged;
-      checks = at.checks;
-      ended = λ e. elim e [ inl zero ↦ absurd (omega arith) | inr six ↦ absurd (omega arith) ];
-      right = λ e. absurd (omega arith);
-      wrong = λ e. absurd (omega arith);
-      begun = λ e. printed;
-      bad = λ e. inr (line, after, f, rest, bad, rw number at some);
-      refused = λ e. absurd (omega arith);
-    }
-stops o (BadLine n f) name capture had has faults said status at (inr is) =
-    let (line, after, rest, bad, number, printed) = at.says in
-    rw is record {
-      done = at.done;
-      rest = at.rest;
-      lines = at.lines;
-      judged = at.judged;
-      checks = at.checks;
-      ended = λ e. elim e [ inl zero ↦ absurd (omega arith) | inr six ↦ absurd (omega arith) ];
-      right = λ e. absurd (omega arith);
-      wrong = λ e. absurd (omega arith);
-      begun = λ e. printed;
-      bad = λ e. absurd (omega arith);
-      refused = λ e. absurd (omega arith);
-    }
-stops o NoMemory name capture had has faults said status at is = rw is record {
-  done = at.done;
-  rest = at.rest;
-  lines = at.lines;
-  judged = at.judged;
-  checks = at.checks;
-  ended = λ e. elim e [ inl zero ↦ absurd (omega arith) | inr six ↦ absurd (omega arith) ];
-  right = λ e. absurd (omega arith);
-  wrong = λ e. absurd (omega arith);
-  begun = λ e. at.says;
-  bad = λ e. absurd (omega arith);
-  refused = λ e. absurd (omega arith);
-}
-stops o OutputRefused name capture had has faults said status at is = rw is record {
+stops o OutputRefused name capture had has faults said at says = record {
   done = at.done;
   rest = at.rest;
   lines = at.lines;
@@ -144,13 +121,3 @@ stops o OutputRefused name capture had has faults said status at is = rw is reco
   bad = λ e. absurd (omega arith);
   refused = λ e. at.says;
 }
-
--- the statuses of a stop
-pub stop_status : (s : Stop) (name : List ℕ) (faults said : Option (List ℕ)) (status : ℕ)
-    → IsReported s name faults said status → Contains (0 ∷ 1 ∷ 3 ∷ 5 ∷ 6 ∷ []) status
-stop_status CannotRead name faults said status (inl (is, some)) = rw is (1, omega arith, refl)
-stop_status CannotRead name faults said status (inr is) = rw is (2, omega arith, refl)
-stop_status (BadLine n f) name faults said status (inl (is, some)) = rw is (1, omega arith, refl)
-stop_status (BadLine n f) name faults said status (inr is) = rw is (2, omega arith, refl)
-stop_status NoMemory name faults said status is = rw is (2, omega arith, refl)
-stop_status OutputRefused name faults said status is = rw is (3, omega arith, refl)

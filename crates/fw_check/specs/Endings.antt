@@ -1,13 +1,14 @@
 -- How the check of a capture ends, by its exit status.
-use Rattle.std.specs.Prelude.{◌≡◌, ◌⊎◌, ◌<◌, ◌+◌, ℕ, List, [], ◌∷◌, ◌++◌, Option, Contains, IfSome, length}
+use Rattle.std.specs.Prelude.{◌≡◌, ◌⊎◌, ◌<◌, ◌+◌, ℕ, List, [], ◌∷◌, ◌++◌, Option, Contains, IfSome, codes, length}
 use Rattle.std.specs.Io.KnownBytes.{Appends}
 use Rattle.fuse_capture.specs.declared.line.CaptureFault.{CaptureFault}
+use Rattle.fuse_capture.specs.Faults.{capture_fault_words}
 use Rattle.fuse_capture.specs.Lines.{LineFaultIs}
 use Rattle.fw_check.specs.declared.options.CheckOptions.{CheckOptions}
 use Rattle.fw_check.specs.Checks.{Judged, Checks, end_text, finding_count}
 use Rattle.fuse_text.specs.Lines.{lines_of}
 use Rattle.fuse_text.specs.Outputs.{AppendsSome}
-use Rattle.fw_check.specs.Reports.{bad_line, unreadable}
+use Rattle.fuse_text.specs.Stops.{bad_line, unreadable}
 
 -- What was printed of a capture whose bytes are known: its first lines were judged, and what is said of them printed.
 pub record PrintsChecked (o : CheckOptions) (name capture : List ℕ) (out_old out_new faults_old faults_new : Option (List ℕ)) (status : ℕ)
@@ -24,9 +25,9 @@ pub record PrintsChecked (o : CheckOptions) (name capture : List ℕ) (out_old o
   pub wrong : status ≡ 6 → 0 < finding_count o.is_strict judged
   -- up to a line that has a fault or cannot be read, or until memory runs out
   pub begun : (status ≡ 1) ⊎ (status ≡ 3) → Appends out_old out_new judged.text
-  pub bad : status ≡ 1 → AppendsSome faults_old faults_new (unreadable name)
+  pub bad : status ≡ 1 → AppendsSome faults_old faults_new (unreadable name ++ codes "\n")
       ⊎ ((line : List ℕ) × (after : List (List ℕ)) × (f : CaptureFault) × (rest ≡ line ∷ after) × LineFaultIs line f
-      × AppendsSome faults_old faults_new (bad_line (length done + 1) f))
+      × AppendsSome faults_old faults_new (bad_line (length done + 1) (capture_fault_words f) ++ codes "\n"))
   -- until the output refuses
   pub refused : status ≡ 5 → AppendsSome out_old out_new (judged.text ++ end_text o judged)
 

@@ -10,7 +10,6 @@ pub mod Json
 pub mod Life
 pub mod Names
 pub mod Past
-pub mod Reports
 pub mod Running
 pub mod Standing
 pub mod Summary

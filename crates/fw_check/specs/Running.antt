@@ -13,6 +13,7 @@ use Rattle.joined_judge.specs.Judging.{AreFaultsAs}
 use Rattle.name_sessions.specs.NameFrames.{AreNamesAfter}
 use Rattle.name_sessions.specs.NameSessions.{NameSession}
 use Rattle.name_judge.specs.Judged.{HasSeen}
+use Rattle.fuse_capture.specs.declared.line.CaptureFault.{CaptureFault}
 use Rattle.fuse_capture.specs.declared.line.CaptureLine.{CaptureLine}
 use Rattle.fuse_capture.specs.Lines.{LineFaultIs}
 use Rattle.fuse_capture.specs.Readings.{IsTransferOf}
@@ -24,8 +25,8 @@ use Rattle.fw_check.specs.declared.life.Doer.{Doer}
 use Rattle.fw_check.specs.declared.past.Trace.{Trace}
 use Rattle.fw_check.specs.declared.remains.Remains.{Remains}
 use Rattle.fw_check.specs.declared.seen.Seen.{Seen}
-use Rattle.fw_check.specs.declared.stop.Stop.{Stop}
-use Rattle.fw_check.specs.declared.stop.Stop.TheVariants as stop
+use Rattle.fuse_text.specs.declared.stop.Stop.{Stop}
+use Rattle.fuse_text.specs.declared.stop.Stop.TheVariants as stop
 use Rattle.fw_check.specs.Asked.{asked_verdicts}
 use Rattle.fw_check.specs.Checks.{Judged, Checks, end_text, faults_of, number_of}
 use Rattle.fuse_text.specs.Lines.{lines_of}
@@ -34,7 +35,6 @@ use Rattle.fw_check.specs.Life.{doer_for}
 use Rattle.fw_check.specs.Names.{with_names, with_removal}
 use Rattle.fuse_text.specs.Outputs.{AppendsSome}
 use Rattle.fw_check.specs.Past.{remembered, traces_of}
-use Rattle.fw_check.specs.Reports.{bad_line, unreadable}
 use Rattle.fw_check.specs.Standing.{Stands, remains_of}
 use Rattle.fw_check.specs.Summary.{ExchangeState, after_asked, exchanges_of, line_time}
 use Rattle.fw_check.specs.Tallies.{entries_of, forgotten_by, is_notification, is_refused, is_reply, is_request}
@@ -156,7 +156,7 @@ IsJudgedAs o j number l shown verdicts judge c text = (so : IsJudgedSo o j numbe
     × (text ≡ transfer_lines o number j.past j.known judge.session.known j.acts so.transfer shown verdicts)
 
 -- What became of a line that says a transfer, and of the output.
-abbrev pub SaidEnds : {T : Type 0} → CheckOptions → Judged → (number : ℕ) → CaptureLine → SeenState → Counts → Result T Stop
+abbrev pub SaidEnds : {T : Type 0} → CheckOptions → Judged → (number : ℕ) → CaptureLine → SeenState → Counts → Result T (Stop CaptureFault)
     → (had has : Option (List ℕ)) → Type 0
 SaidEnds o j number l judge c (Ok done) had has = (shown : List Act) × (verdicts : List (Option Fault))
     × (so : IsJudgedSo o j number l shown verdicts judge c)
@@ -176,7 +176,7 @@ pub record ChecksMore (o : CheckOptions) (lines : List (List ℕ)) (before after
 
 -- What became of a line after these.
 abbrev pub LineEnds : {T : Type 0} → CheckOptions → (lines : List (List ℕ)) → Judged → (line : List ℕ) → SeenState → Counts
-    → Result T Stop → (had has : Option (List ℕ)) → Type 0
+    → Result T (Stop CaptureFault) → (had has : Option (List ℕ)) → Type 0
 LineEnds o lines j line judge c (Ok done) had has = (next : Judged) × (more : List ℕ)
     × ChecksMore o (lines ++ line ∷ []) j next more × IsKept next judge c × Appends had has more
 LineEnds o lines j line judge c (Err stop.OutputRefused) had has = (next : Judged) × (more : List ℕ)
@@ -210,14 +210,14 @@ pub record AllChecked (o : CheckOptions) (capture : List ℕ) (judge : SeenState
   pub printed : Appends had has judged.text
 
 -- What a stop says of the lines that were judged, and of those that are left.
-abbrev pub StopSays : CheckOptions → Stop → (number : ℕ) → (rest : List (List ℕ)) → Judged → (had has : Option (List ℕ)) → Type 0
+abbrev pub StopSays : CheckOptions → Stop CaptureFault → (number : ℕ) → (rest : List (List ℕ)) → Judged → (had has : Option (List ℕ)) → Type 0
 StopSays o (stop.BadLine n f) number rest j had has = (line : List ℕ) × (after : List (List ℕ)) × (rest ≡ line ∷ after)
     × LineFaultIs line f × (n ≡ number) × Appends had has j.text
 StopSays o stop.OutputRefused number rest j had has = AppendsSome had has (j.text ++ end_text o j)
 StopSays o other number rest j had has = Appends had has j.text
 
 -- A check stopped after some lines.
-pub record StopsIn (o : CheckOptions) (capture : List ℕ) (s : Stop) (had has : Option (List ℕ)) : Type 0 where
+pub record StopsIn (o : CheckOptions) (capture : List ℕ) (s : Stop CaptureFault) (had has : Option (List ℕ)) : Type 0 where
   pub done : List (List ℕ)
   pub rest : List (List ℕ)
   pub lines : lines_of capture ≡ done ++ rest
@@ -227,12 +227,12 @@ pub record StopsIn (o : CheckOptions) (capture : List ℕ) (s : Stop) (had has :
 
 -- What became of the next line: there are more, or it was the last.
 abbrev pub NextEnds : CheckOptions → (capture : List ℕ) → (left : Option (List ℕ)) → (number : ℕ) → SeenState → Counts
-    → Result Bool Stop → (had has : Option (List ℕ)) → Type 0
+    → Result Bool (Stop CaptureFault) → (had has : Option (List ℕ)) → Type 0
 NextEnds o capture left number judge c (Ok true) had has = IsUpTo o capture left (number + 1) judge c had has
 NextEnds o capture left number judge c (Ok false) had has = AllChecked o capture judge c had has
 NextEnds o capture left number judge c (Err s) had has = StopsIn o capture s had has
 
-abbrev pub LinesEnd : {T : Type 0} → CheckOptions → (capture : List ℕ) → SeenState → Counts → Result T Stop
+abbrev pub LinesEnd : {T : Type 0} → CheckOptions → (capture : List ℕ) → SeenState → Counts → Result T (Stop CaptureFault)
     → (had has : Option (List ℕ)) → Type 0
 LinesEnd o capture judge c (Ok done) had has = AllChecked o capture judge c had has
 LinesEnd o capture judge c (Err s) had has = StopsIn o capture s had has
@@ -244,13 +244,13 @@ pub record AllPrinted (o : CheckOptions) (capture : List ℕ) (c : Counts) (had 
   pub counts : AreCounts judged c
   pub printed : Appends had has (judged.text ++ end_text o judged)
 
-abbrev pub CheckEnds : {T : Type 0} → CheckOptions → (capture : List ℕ) → Counts → Result T Stop
+abbrev pub CheckEnds : {T : Type 0} → CheckOptions → (capture : List ℕ) → Counts → Result T (Stop CaptureFault)
     → (had has : Option (List ℕ)) → Type 0
 CheckEnds o capture c (Ok done) had has = AllPrinted o capture c had has
 CheckEnds o capture c (Err s) had has = StopsIn o capture s had has
 
 -- What became of what stands at the end.
-abbrev pub PrintsEnd : {T : Type 0} → CheckOptions → ExchangeState → Remains → Counts → Result T Stop
+abbrev pub PrintsEnd : {T : Type 0} → CheckOptions → ExchangeState → Remains → Counts → Result T (Stop CaptureFault)
     → (had has : Option (List ℕ)) → Type 0
 PrintsEnd o e r c (Ok done) had has = Appends had has (closing_text o e r c)
 PrintsEnd o e r c (Err stop.OutputRefused) had has = AppendsSome had has (closing_text o e r c)
@@ -261,15 +261,3 @@ PrintsEnd o e r c (Err other) had has = ⊥
 abbrev pub AreLeft : SessionState → (nodes : List (ℕ × ℕ)) → (files : List (FileKey × ℕ)) → Remains → Type 0
 AreLeft session nodes files r = (start : Known) (transfers : List Transfer) (s : Session) → HasSeenFrom start transfers s session
     → Stands s nodes files → r ≡ remains_of s
-
--- ---- ends
-
--- What a stop says on standard error, and its exit status. Memory may run out for what is to be said.
-abbrev pub IsSaid : (text : List ℕ) → (old new : Option (List ℕ)) → ℕ → Type 0
-IsSaid text old new status = ((status ≡ 1) × AppendsSome old new text) ⊎ (status ≡ 3)
-
-abbrev pub IsReported : Stop → (name : List ℕ) → (old new : Option (List ℕ)) → ℕ → Type 0
-IsReported stop.CannotRead name old new status = IsSaid (unreadable name) old new status
-IsReported (stop.BadLine number f) name old new status = IsSaid (bad_line number f) old new status
-IsReported stop.NoMemory name old new status = status ≡ 3
-IsReported stop.OutputRefused name old new status = status ≡ 5

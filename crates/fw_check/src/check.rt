@@ -15,12 +15,10 @@ use crate::form::{head_text, put_end};
 use crate::lines::next_line;
 use crate::options::CheckOptions;
 use crate::remains::Remains;
-use crate::stop::Stop;
+use fuse_capture::CaptureFault;
+use fuse_text::{FAULTS, Stop};
 use std::alloc::Allocator;
 use std::io::{BufRead, Write};
-
-/// The exit status where somebody broke a rule, and in a strict check where something is odd.
-const FAULTS: u8 = 6;
 
 /// Reads the next line and judges it. Says whether more lines come.
 fn check_next<A: Allocator + Copy, R: BufRead, W: Write>(
@@ -30,7 +28,7 @@ fn check_next<A: Allocator + Copy, R: BufRead, W: Write>(
     line: &mut Vec<u8, A>,
     number: u64,
     out: &mut W,
-) -> Result<bool, Stop>
+) -> Result<bool, Stop<CaptureFault>>
     ensures { (capture : List ℕ) (had : Option (List ℕ))
         → IsUpTo options capture (R.remaining input.old) number (seen_by checker.old.seen) checker.old.counts had (W.contents out.old)
         → NextEnds options capture (R.remaining input.new) number (seen_by checker.new.seen) checker.new.counts result had
@@ -52,7 +50,7 @@ fn check_lines<A: Allocator + Copy, R: BufRead, W: Write>(
     checker: &mut Checker<A>,
     input: &mut R,
     out: &mut W,
-) -> Result<(), Stop>
+) -> Result<(), Stop<CaptureFault>>
     ensures { (had : Option (List ℕ)) → Appends had (W.contents out.old) (words.head_text options.form)
         → IsKept (nothing_judged options.is_joined) (seen_by checker.old.seen) checker.old.counts → IfSome (R.remaining input.old)
         (λ capture. LinesEnd options capture (seen_by checker.new.seen) checker.new.counts result had (W.contents out.new)) }
@@ -77,7 +75,7 @@ fn print_end<A: Allocator + Copy, W: Write>(
     counts: Counts,
     room: &mut Vec<u8, A>,
     out: &mut W,
-) -> Result<(), Stop>
+) -> Result<(), Stop<CaptureFault>>
     ensures { PrintsEnd options (exchanges_of exchanges.now) remains counts result (W.contents out.old) (W.contents out.new) }
 {
     room.clear();
@@ -98,7 +96,7 @@ fn check_rest<A: Allocator + Copy, R: BufRead, W: Write>(
     checker: &mut Checker<A>,
     input: &mut R,
     out: &mut W,
-) -> Result<(), Stop>
+) -> Result<(), Stop<CaptureFault>>
     ensures { (had : Option (List ℕ)) → Appends had (W.contents out.old) (words.head_text options.form)
         → IsKept (nothing_judged options.is_joined) (seen_by checker.old.seen) checker.old.counts → IfSome (R.remaining input.old)
         (λ capture. CheckEnds options capture checker.new.counts result had (W.contents out.new)) }
@@ -127,7 +125,7 @@ fn check_all<A: Allocator + Copy, R: BufRead, W: Write>(
     checker: &mut Checker<A>,
     input: &mut R,
     out: &mut W,
-) -> Result<(), Stop>
+) -> Result<(), Stop<CaptureFault>>
     ensures { IsKept (nothing_judged options.is_joined) (seen_by checker.old.seen) checker.old.counts → IfSome (R.remaining input.old)
         (λ capture. CheckEnds options capture checker.new.counts result (W.contents out.old) (W.contents out.new)) }
 {
@@ -161,6 +159,6 @@ pub fn run_check<A: Allocator + Copy, R: BufRead, W: Write, F: Write>(
         } else {
             FAULTS
         },
-        Err(stop) => stop.report(name, &mut checker.text, faults),
+        Err(stop) => stop.report(name, faults),
     }
 }

@@ -19,11 +19,10 @@ use crate::past::{Trace, remember};
 use crate::remains::Remains;
 use crate::seen::{Seen, see_transfer};
 use crate::standing::{Standing, count_of_node, counted_nodes, nothing_stands, open_files};
-use crate::stop::Stop;
-use fuse_capture::{CaptureLine, read_line, read_transfer};
+use fuse_capture::{CaptureFault, CaptureLine, read_line, read_transfer};
 use fuse_judge::SessionJudge;
 use fuse_sessions::{Act, Fault};
-use fuse_text::{OutputRefused, write_text};
+use fuse_text::{OutputRefused, Stop, write_text};
 use joined_judge::start_judge;
 use name_judge::NameJudge;
 use std::alloc::{AllocError, Allocator, Global};
@@ -200,7 +199,7 @@ impl<A: Allocator + Copy> Checker<A> {
         number: u64,
         said: CaptureLine<'_>,
         out: &mut W,
-    ) -> Result<(), Stop>
+    ) -> Result<(), Stop<CaptureFault>>
         ensures { (j : Judged) → IsKept j (seen_by self.old.seen) self.old.counts
             → SaidEnds options j number said.entry (seen_by self.new.seen) self.new.counts result (W.contents out.old) (W.contents out.new) }
     {
@@ -220,7 +219,7 @@ impl<A: Allocator + Copy> Checker<A> {
         number: u64,
         line: &[u8],
         out: &mut W,
-    ) -> Result<(), Stop>
+    ) -> Result<(), Stop<CaptureFault>>
         ensures { (lines : List (List ℕ)) (j : Judged) → Checks options lines j → IsKept j (seen_by self.old.seen) self.old.counts
             → number ≡ length lines + 1
             → LineEnds options lines j line.now (seen_by self.new.seen) self.new.counts result (W.contents out.old) (W.contents out.new) }

@@ -30,7 +30,6 @@ mod remains;
 mod rows;
 mod seen;
 mod standing;
-mod stop;
 mod tallies;
 mod text;
 mod unjudged;

@@ -3,8 +3,8 @@
 ghost use Rattle.std.specs.Prelude.{◌≡◌, ◌⊎◌, IfErr, IfOk, IfSome};
 ghost use Rattle.fuse_text.specs.Lines.{IsTaken};
 
-use crate::stop::Stop;
-use fuse_text::LineError;
+use fuse_capture::CaptureFault;
+use fuse_text::{LineError, Stop};
 use std::alloc::Allocator;
 use std::io::BufRead;
 
@@ -17,7 +17,7 @@ use std::io::BufRead;
 pub(crate) fn next_line<A: Allocator, R: BufRead>(
     input: &mut R,
     line: &mut Vec<u8, A>,
-) -> Result<bool, Stop>
+) -> Result<bool, Stop<CaptureFault>>
     ensures taken { IfOk result (λ is_more. IfSome (R.remaining input.old)
         (λ bytes. IsTaken bytes is_more line.new.items (R.remaining input.new))) }
     ensures refused { IfErr result (λ stop. (stop ≡ Stop.CannotRead) ⊎ (stop ≡ Stop.NoMemory)) }

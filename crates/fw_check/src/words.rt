@@ -2,9 +2,7 @@
 
 ghost use Rattle.std.specs.Prelude.{◌≡◌};
 ghost use Rattle.fw_check.specs.FaultWords as words;
-ghost use Rattle.fw_check.specs.Reports.{capture_fault_words};
 
-use fuse_capture::CaptureFault;
 use fuse_sessions::{Fault, Party};
 
 /// Whose fault it is.
@@ -73,16 +71,5 @@ pub fn fault_words(fault: Fault) -> &'static str
         Fault::AgainTooOften => "INTERRUPT answered EAGAIN more than 1000 times",
         Fault::OffsetGivenTwice => "offset given twice in a row",
         Fault::ListingWithoutEnd => "listing that ends where it began",
-    }
-}
-
-/// What is wrong with a line.
-pub(crate) fn capture_words(fault: CaptureFault) -> &'static str
-    ensures { result.now ≡ capture_fault_words fault }
-{
-    match fault {
-        CaptureFault::UnknownDirection => "unknown direction",
-        CaptureFault::WrongWords => "wrong words",
-        CaptureFault::BadHex => "bad hex",
     }
 }

@@ -3,9 +3,9 @@
 ghost use Rattle.std.specs.Prelude.{◌∷◌, [], Contains};
 
 use crate::lines::next_line;
-use crate::session::Decoding;
-use crate::stop::{Stop, taken};
-use fuse_capture::{CaptureLine, read_line, read_transfer};
+use crate::session::{Decoding, taken};
+use fuse_capture::{CaptureFault, CaptureLine, read_line, read_transfer};
+use fuse_text::Stop;
 use std::alloc::Allocator;
 use std::io::{BufRead, Write};
 
@@ -24,7 +24,7 @@ fn decode_line<A: Allocator + Copy, W: Write>(
     number: u64,
     line: &[u8],
     out: &mut W,
-) -> Result<(), Stop<'static>> {
+) -> Result<(), Stop<CaptureFault>> {
     let line = match read_line(line) {
         Ok(Some(line)) => line,
         Ok(None) => return Ok(()),
@@ -38,17 +38,16 @@ fn decode_line<A: Allocator + Copy, W: Write>(
 }
 
 /// Prints each line in words, and what the capture comes to.
-fn decode<'a, A: Allocator + Copy, R: BufRead, W: Write>(
+fn decode<A: Allocator + Copy, R: BufRead, W: Write>(
     alloc: A,
-    name: &'a str,
     input: &mut R,
     out: &mut W,
-) -> Result<(), Stop<'a>> {
+) -> Result<(), Stop<CaptureFault>> {
     let mut decoding = Decoding::new(alloc);
     let mut line = Vec::new(alloc);
     let mut frame = Vec::new(alloc);
     for number in 1..u64::MAX {
-        if !next_line(name, input, &mut line)? {
+        if !next_line(input, &mut line)? {
             break;
         }
         decode_line(&mut decoding, &mut frame, number, line.as_slice(), out)?;
@@ -71,8 +70,8 @@ pub fn run_decode<A: Allocator + Copy, R: BufRead, W: Write, F: Write>(
 ) -> u8
     ensures { Contains (0 ∷ 1 ∷ 3 ∷ 5 ∷ []) result }
 {
-    match decode(alloc, name, input, out) {
+    match decode(alloc, input, out) {
         Ok(()) => 0,
-        Err(stop) => stop.report(faults),
+        Err(stop) => stop.report(name, faults),
     }
 }

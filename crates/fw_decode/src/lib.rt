@@ -7,10 +7,8 @@ mod decode;
 mod frames;
 mod lines;
 mod session;
-mod stop;
 mod totals;
 
 pub use decode::run_decode;
 pub use lines::next_line;
 pub use session::Decoding;
-pub use stop::Stop;

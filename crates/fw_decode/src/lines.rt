@@ -1,10 +1,10 @@
 //! The lines of an input, one after another.
 
 ghost use Rattle.std.specs.Prelude.{◌≡◌, ◌∷◌, [], Contains, IfErr};
-ghost use Rattle.fw_decode.specs.Statuses.{status_of};
+ghost use Rattle.fuse_text.specs.Stops.{status_of};
 
-use crate::stop::Stop;
-use fuse_text::LineError;
+use fuse_capture::CaptureFault;
+use fuse_text::{LineError, Stop};
 use std::alloc::Allocator;
 use std::io::BufRead;
 
@@ -14,16 +14,15 @@ use std::io::BufRead;
 /// # Errors
 ///
 /// The input cannot be read, or out of memory.
-pub fn next_line<'a, A: Allocator, R: BufRead>(
-    name: &'a str,
+pub fn next_line<A: Allocator, R: BufRead>(
     input: &mut R,
     line: &mut Vec<u8, A>,
-) -> Result<bool, Stop<'a>>
+) -> Result<bool, Stop<CaptureFault>>
     ensures { IfErr result (λ stop. Contains (1 ∷ 3 ∷ []) (status_of stop)) }
 {
     match fuse_text::next_line(input, line) {
         Ok(is_more) => Ok(is_more || !line.is_empty()),
         Err(LineError::NoMemory) => Err(Stop::NoMemory),
-        Err(LineError::CannotRead) => Err(Stop::CannotRead { name }),
+        Err(LineError::CannotRead) => Err(Stop::CannotRead),
     }
 }

@@ -3,16 +3,25 @@
 ghost use Rattle.std.specs.Prelude.{◌≡◌};
 
 use crate::frames::{write_answered, write_unread};
-use crate::stop::{Stop, taken};
 use crate::totals::Totals;
 use frame_words::write_request_frame;
+use fuse_capture::CaptureFault;
 use fuse_judge::SessionJudge;
 use fuse_protocol::Unjudged;
 use fuse_sessions::{Act, Fault, Taken, Transfer};
+use fuse_text::Stop;
 use fw_check::{fault_words, party_word, unjudged_words};
 use std::alloc::{AllocError, Allocator};
 use std::io;
 use std::io::Write;
+
+/// What was written, or that the output refused.
+pub(crate) fn taken(written: io::Result<()>) -> Result<(), Stop<CaptureFault>> {
+    match written {
+        Ok(()) => Ok(()),
+        Err(_) => Err(Stop::OutputRefused),
+    }
+}
 
 /// A capture so far: what the judge has seen of it, and what it comes to.
 #[derive(Drop)]
@@ -130,7 +139,7 @@ impl<A: Allocator + Copy> Decoding<A> {
         transfer: Transfer<'_>,
         is_cut: bool,
         out: &mut W,
-    ) -> Result<(), Stop<'static>> {
+    ) -> Result<(), Stop<CaptureFault>> {
         taken(self.write_transfer(transfer, out))?;
         let before = self.judge.unjudged();
         self.see(transfer).map_err(|_| Stop::NoMemory)?;
@@ -161,7 +170,7 @@ impl<A: Allocator + Copy> Decoding<A> {
     }
 
     /// Writes the last line.
-    pub(crate) fn write_end<W: Write>(&self, out: &mut W) -> Result<(), Stop<'static>> {
+    pub(crate) fn write_end<W: Write>(&self, out: &mut W) -> Result<(), Stop<CaptureFault>> {
         taken(self.totals.write_end(out))
     }
 }

@@ -5,7 +5,7 @@ ghost use Rattle.fw_draw.specs.Endings.{EndsDrawing};
 use crate::run::draw_run;
 use crate::script::read_good_text;
 use crate::svg::{inner_text, print_svg};
-use fw_script::no_memory;
+use fuse_text::no_memory;
 use std::alloc::{AllocError, Allocator};
 use std::io::{Read, Write};
 

@@ -5,7 +5,8 @@ ghost use Rattle.fuse_text.specs.Outputs.{AppendsSome};
 ghost use Rattle.fw_script.specs.Scripts.{IsGoodScript};
 ghost use Rattle.fw_script.specs.Stops.{SaysFault};
 
-use fw_script::{Script, cannot_read, no_memory};
+use fuse_text::{cannot_read, no_memory};
+use fw_script::Script;
 use std::alloc::Allocator;
 use std::io::{ErrorKind, Read, Write};
 

@@ -2,7 +2,8 @@
 use Rattle.std.specs.Prelude.{◌⊎◌, ◌++◌, ◌∷◌, [], ℕ, List, Option, IfSome, codes}
 use Rattle.fuse_text.specs.Outputs.{AppendsSome}
 use Rattle.fw_script.specs.Scripts.{IsPassedOver}
-use Rattle.fw_script.specs.Stops.{bad_line, unreadable}
+use Rattle.fuse_text.specs.Stops.{bad_line, unreadable}
+use Rattle.fw_script.specs.Stops.{line_fault_words}
 use Rattle.fuse_text.specs.Words.{words_of}
 use Rattle.fw_script.specs.declared.line.LineFault.{LineFault}
 use Rattle.fw_drive.specs.DriveLines.{DriveLineHasWords, FirstDriveFaultIs, IsGoodDriveScript}
@@ -31,13 +32,13 @@ bad_status bad.NoMemory = 3
 
 -- what is said of it on standard error
 abbrev pub bad_text : BadScript → List ℕ
-bad_text (bad.BadLine number fault) = bad_line number fault ++ codes "\n"
+bad_text (bad.BadLine number fault) = bad_line number (line_fault_words fault) ++ codes "\n"
 bad_text bad.NoMemory = codes "no memory\n"
 
 -- The first line with a fault is said, or a beginning of that.
 abbrev pub SaysFirstFault : Form → (script : List ℕ) → (old new : Option (List ℕ)) → Type 0
 SaysFirstFault form script old new = (number : ℕ) × (fault : LineFault) × FirstDriveFaultIs form script number fault
-    × AppendsSome old new (bad_line number fault ++ codes "\n")
+    × AppendsSome old new (bad_line number (line_fault_words fault) ++ codes "\n")
 
 -- Why a script is not run: it cannot be read, or a line has a fault; either is said, or a beginning of it.
 abbrev pub IsUnrun : Form → (name : List ℕ) → (script : Option (List ℕ)) → (old new : Option (List ℕ)) → Type 0

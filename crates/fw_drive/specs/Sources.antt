@@ -3,7 +3,8 @@ use Rattle.std.specs.Prelude.{◌≡◌, ◌≤◌, ◌+◌, ◌⊎◌, ◌++◌
 use Rattle.fuse_device.specs.Transfers.{Transfer}
 use Rattle.fk_drive.specs.Driving.{Driven, first_driven}
 use Rattle.fuse_text.specs.Outputs.{AppendsSome}
-use Rattle.fw_script.specs.Stops.{bad_line, unreadable}
+use Rattle.fuse_text.specs.Stops.{bad_line, unreadable}
+use Rattle.fw_script.specs.Stops.{line_fault_words}
 use Rattle.fw_drive.specs.DriveLines.{DriveLineFaultIs}
 use Rattle.fw_drive.specs.Findings.{Told, finding_status}
 use Rattle.fw_drive.specs.Judging.{Say}
@@ -107,7 +108,7 @@ abbrev pub EndsRun : (A : Type 0) → Option Unanswered → (name : List ℕ) �
 EndsRun A waits name is_report_only moves (Ok _) status had has fault_had fault_has =
     (status ≡ finding_status is_report_only moves) × (has ≡ had) × (fault_has ≡ fault_had)
 EndsRun A waits name is_report_only moves (Err (halts.BadLine number fault)) status had has fault_had fault_has =
-    (status ≡ 1) × (has ≡ had) × AppendsSome fault_had fault_has (bad_line number fault ++ codes "\n")
+    (status ≡ 1) × (has ≡ had) × AppendsSome fault_had fault_has (bad_line number (line_fault_words fault) ++ codes "\n")
 EndsRun A waits name is_report_only moves (Err (halts.NoLine no_line.CannotRead)) status had has fault_had fault_has =
     (status ≡ 1) × (has ≡ had) × AppendsSome fault_had fault_has (unreadable name ++ codes "\n")
 EndsRun A waits name is_report_only moves (Err (halts.NoLine no_line.NoMemory)) status had has fault_had fault_has =

@@ -12,7 +12,8 @@ use crate::fault::{BodySize, Fault, GivenFile, HeadFault, RequestName, RightSize
 use crate::printing::{print_between, print_counted};
 use crate::request_words::print_named;
 use fuse_spec::Kind;
-use fw_script::{OutputRefused, word_of_kind, write_number, write_text};
+use fuse_text::{OutputRefused, write_number, write_text};
+use fw_script::word_of_kind;
 use std::alloc::Allocator;
 use std::io::Write;
 

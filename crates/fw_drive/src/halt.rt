@@ -7,7 +7,8 @@ ghost use Rattle.fw_drive.specs.Sources.{EndsRun};
 use crate::fault::Unanswered;
 use crate::source::NoLine;
 use crate::stop::Stop;
-use fw_script::{LineFault, bad_line, cannot_read, no_memory};
+use fuse_text::{cannot_read, no_memory};
+use fw_script::{LineFault, bad_line};
 use std::alloc::Allocator;
 use std::io::Write;
 

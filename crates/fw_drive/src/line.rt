@@ -10,7 +10,8 @@ ghost use Rattle.fw_drive.specs.DriveLines.{IsGoodDriveLine, IsOfCalls, IsOfFram
 
 use crate::form::Form;
 use crate::parts::{four_words, one_word};
-use fw_script::{Line, LineFault, is_passed_over, read_line, split_word};
+use fuse_text::split_word;
+use fw_script::{Line, LineFault, is_passed_over, read_line};
 use fw_world::{Call, Event, Pick};
 
 /// O_RDONLY, O_WRONLY and O_RDWR of open(2), each with O_LARGEFILE, as a kernel sends them in OPEN.

@@ -8,7 +8,8 @@ ghost use Rattle.fw_drive.specs.Judging.{JudgingEnds, Say, bad_status, bad_text}
 
 use crate::form::Form;
 use crate::line::{DriveLine, read_any};
-use fw_script::{LineFault, Lines, bad_line, no_memory};
+use fuse_text::no_memory;
+use fw_script::{LineFault, Lines, bad_line};
 use std::alloc::Allocator;
 use std::io::Write;
 

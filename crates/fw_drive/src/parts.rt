@@ -3,7 +3,7 @@
 ghost use Rattle.std.specs.Prelude.{◌≡◌, ◌≢◌, ◌∷◌, [], List, ℕ, MatchOption, option_copied};
 ghost use Rattle.fuse_text.specs.Words.{words_left, words_of};
 
-use fw_script::split_word;
+use fuse_text::split_word;
 
 /// The one word of the rest of a line, if it has one.
 pub(crate) fn one_word(rest: Option<&[u8]>) -> Option<&[u8]>

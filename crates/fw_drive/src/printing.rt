@@ -13,7 +13,8 @@ ghost use Rattle.fw_drive.specs.Printed.{IsShownUnique, of_frame, outcome_text, 
 use crate::form::Form;
 use fk_wire::{Opcode, ReplyHead};
 use fuse_spec::WriteResult;
-use fw_script::{OutputRefused, write_number, write_record, write_text};
+use fuse_text::{OutputRefused, write_number, write_text};
+use fw_script::write_record;
 use fw_world::{Answer, Outcome, Record, Refusal};
 use std::alloc::Allocator;
 use std::io::Write;

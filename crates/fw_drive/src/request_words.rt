@@ -7,7 +7,7 @@ ghost use Rattle.fw_drive.specs.Faults.{asks_word, more_words, request_words, se
 
 use crate::fault::{Asks, CallName, RequestName, Unanswered};
 use crate::printing::{print_between, print_counted};
-use fw_script::{OutputRefused, write_number, write_text};
+use fuse_text::{OutputRefused, write_number, write_text};
 use std::io::Write;
 
 /// The name of what a request asks.

@@ -4,7 +4,7 @@ ghost use Rattle.std.specs.Prelude.{◌≡◌, ◌⊎◌, ◌++◌, ◌∷◌, [
 ghost use Rattle.driven_sessions.specs.Rules.{KeepsRules};
 ghost use Rattle.fk_drive.specs.Driving.{Driven, DrivesOver, first_driven};
 ghost use Rattle.fuse_text.specs.Outputs.{AppendsSome};
-ghost use Rattle.fw_script.specs.Stops.{unreadable};
+ghost use Rattle.fuse_text.specs.Stops.{unreadable};
 ghost use Rattle.fw_drive.specs.DriveLines.{IsGoodDriveScript};
 ghost use Rattle.fw_drive.specs.Judging.{IsUnrun, SaysFirstFault};
 ghost use Rattle.fw_drive.specs.LineMoves.{LinesMoveAs, all_lines};
@@ -20,7 +20,8 @@ use crate::script::{print_end, run_script};
 use crate::stop::{Stop, status_at_end};
 use fk_drive::FreeFields;
 use fuse_device::Device;
-use fw_script::{bad_line, cannot_read, no_memory};
+use fuse_text::{cannot_read, no_memory};
+use fw_script::bad_line;
 use fw_world::{Maps, Tables};
 use std::alloc::Allocator;
 use std::io::{ErrorKind, Read, Write};

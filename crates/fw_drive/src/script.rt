@@ -20,7 +20,7 @@ use crate::notes::Notes;
 use crate::place::{Place, Places};
 use crate::stop::{Stop, flush};
 use fuse_device::Device;
-use fw_script::{is_hex_or_none, read_hex_or_none};
+use fuse_text::{is_hex_or_none, read_hex_or_none};
 use fw_world::{Call, Event, Tables};
 use std::io::Write;
 

@@ -13,7 +13,7 @@ use crate::request_words::print_no_reply;
 use fk_drive::DriveEnd;
 use fuse_device::DeviceEnd;
 use fuse_spec::Refusal;
-use fw_script::{OutputRefused, no_memory, write_text};
+use fuse_text::{OutputRefused, no_memory, write_text};
 use std::alloc::Allocator;
 use std::io::Write;
 

@@ -5,7 +5,7 @@ ghost use Rattle.fw_json.specs.Asked as table;
 ghost use Rattle.fuse_text.specs.Words.{parts_left, words_left, words_of};
 
 use crate::field::is_number;
-use fw_script::split_at;
+use fuse_text::split_at;
 
 /// The call that a request serves.
 #[derive(Clone, Copy)]

@@ -9,7 +9,7 @@ ghost use Rattle.fuse_text.specs.Words.{words_left, words_of};
 use crate::key::Key;
 use crate::string::put_string;
 use crate::text::put;
-use fw_script::{Words, split_at};
+use fuse_text::{Words, split_at};
 use std::alloc::{AllocError, Allocator};
 
 /// Whether a byte is a decimal digit.

@@ -4,7 +4,7 @@ ghost use Rattle.std.specs.Prelude.{◌≡◌, ◌≤◌, MatchOption, None, Som
 ghost use Rattle.fw_json.specs.Objects as table;
 
 use crate::field::is_number;
-use fw_script::split_at;
+use fuse_text::split_at;
 
 /// What such a line says first.
 #[derive(Clone, Copy)]

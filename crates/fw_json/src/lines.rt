@@ -9,7 +9,7 @@ ghost use Rattle.fw_json.specs.Texts.{HasWritten, first_line};
 
 use crate::object::make_object;
 use crate::text::put;
-use fw_script::write_text;
+use fuse_text::write_text;
 use std::alloc::Allocator;
 use std::io::{Error, ErrorKind, Result, Write};
 

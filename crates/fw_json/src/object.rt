@@ -13,7 +13,7 @@ use crate::field::{put_fields, put_key, put_string_field};
 use crate::judged::{Judged, read_judged};
 use crate::key::Key;
 use crate::text::put;
-use fw_script::split_at;
+use fuse_text::split_at;
 use std::alloc::{AllocError, Allocator};
 
 /// Puts what an object begins with.

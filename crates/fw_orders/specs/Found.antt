@@ -7,7 +7,7 @@ use Rattle.order_search.specs.declared.course.Wanted.{Wanted}
 use Rattle.order_search.specs.declared.course.Wanted.TheVariants as wanted
 use Rattle.fuse_text.specs.Outputs.{AppendsSome}
 use Rattle.fuse_text.specs.Lines.{lines_of}
-use Rattle.fw_script.specs.Stops.{unreadable}
+use Rattle.fuse_text.specs.Stops.{unreadable}
 use Rattle.fw_orders.specs.FileLines.{FirstBadLine, HaveParts}
 use Rattle.fw_orders.specs.Following.{LeadsIn}
 use Rattle.fw_orders.specs.Printed.{orders_text}

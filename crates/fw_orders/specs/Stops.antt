@@ -1,5 +1,6 @@
 -- What ends early says on standard error, and with which exit status.
 use Rattle.std.specs.Prelude.{ℕ, List, [], ◌++◌, codes, decimal}
+use Rattle.fuse_text.specs.Stops.{bad_line}
 use Rattle.fw_script.specs.Stops.{line_fault_words}
 use Rattle.fw_orders.specs.declared.fault.LinesFault.{LinesFault}
 use Rattle.fw_orders.specs.declared.fault.LinesFault.TheVariants as faults
@@ -21,18 +22,12 @@ fault_words faults.TooManyCalls = codes "too many calls together"
 fault_words faults.SecondStep = codes "second step together"
 fault_words faults.TooManyLines = codes "too many lines"
 
-abbrev pub line_head : ℕ → List ℕ
-line_head number = codes "line " ++ decimal number ++ codes ": "
-
-abbrev pub bad_line_text : ℕ → LinesFault → List ℕ
-bad_line_text number fault = line_head number ++ (fault_words fault ++ codes "\n")
-
 abbrev pub no_such_text : ℕ → List ℕ
 no_such_text orders = codes "no such order: there are " ++ decimal orders ++ codes "\n"
 
 -- the line on standard error, none where standard output refuses
 abbrev pub stop_text : Stop → List ℕ
-stop_text (stop.BadLine number fault) = bad_line_text number fault
+stop_text (stop.BadLine number fault) = bad_line number (fault_words fault) ++ codes "\n"
 stop_text stop.TooLong = codes "an order has more than 256 messages\n"
 stop_text (stop.NoSuchOrder orders) = no_such_text orders
 stop_text stop.NoMemory = codes "no memory\n"

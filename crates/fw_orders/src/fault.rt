@@ -3,6 +3,7 @@
 ghost use Rattle.std.specs.Prelude.{◌≡◌};
 ghost use Rattle.fw_orders.specs.Stops.{fault_words};
 
+use fuse_text::LineFaultWords;
 use fw_script::LineFault;
 use thiserror::Error;
 
@@ -26,10 +27,7 @@ impl LinesFault {
         ensures { result.now ≡ fault_words self }
     {
         match self {
-            LinesFault::Line(LineFault::UnknownEvent) => "unknown event",
-            LinesFault::Line(LineFault::WrongWords) => "wrong words",
-            LinesFault::Line(LineFault::BadNumber) => "bad number",
-            LinesFault::Line(LineFault::BadText) => "bad text",
+            LinesFault::Line(fault) => fault.words(),
             LinesFault::TooManyCalls => "too many calls together",
             LinesFault::SecondStep => "second step together",
             LinesFault::TooManyLines => "too many lines",

@@ -3,7 +3,7 @@
 ghost use Rattle.std.specs.Prelude.{◌++◌, OnOk, codes, decimal};
 ghost use Rattle.std.specs.Io.KnownBytes.{Appends};
 
-use fw_script::{OutputRefused, write_number, write_text};
+use fuse_text::{OutputRefused, write_number, write_text};
 use order_search::{NotPrinted, Printer};
 use std::io::Write;
 

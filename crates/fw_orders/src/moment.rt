@@ -13,7 +13,7 @@ ghost use Rattle.order_law.specs.Moments.{RepliesTaken, Stepped, line};
 
 use crate::act::{Act, WriteCall};
 use crate::stop::Stop;
-use fw_script::{is_hex_or_none, read_hex_or_none, write_number};
+use fuse_text::{is_hex_or_none, read_hex_or_none, write_number};
 use fw_world::{Call, Event, Minor, Outcome, Pick, Refusal, Tables, WorldOf};
 use std::marker::Model;
 

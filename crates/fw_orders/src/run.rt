@@ -3,7 +3,7 @@
 ghost use Rattle.std.specs.Prelude.{◌≡◌, ◌⊎◌, ◌++◌, ◌∷◌, [], Contains, IfErr, IfOk, IfSome, OnErr, OnOk, codes, decimal};
 ghost use Rattle.std.specs.Io.KnownBytes.{Appends};
 ghost use Rattle.fuse_text.specs.Outputs.{AppendsSome};
-ghost use Rattle.fw_script.specs.Stops.{unreadable};
+ghost use Rattle.fuse_text.specs.Stops.{unreadable};
 ghost use Rattle.fw_orders.specs.Found.{Ends, FinishEnds, Finishes, IsGoodOr, Prints, PrintsOrders, SaysStop, SaysWhy, SearchEnds};
 ghost use Rattle.fw_orders.specs.Saying.{parts_of};
 
@@ -12,7 +12,7 @@ use crate::headed::Headed;
 use crate::part::Part;
 use crate::read::read_parts;
 use crate::stop::Stop;
-use fw_script::{OutputRefused, cannot_read, no_memory, write_number, write_text};
+use fuse_text::{OutputRefused, cannot_read, no_memory, write_number, write_text};
 use fw_world::Maps;
 use order_search::{Stop as SearchStop, Wanted, search};
 use std::alloc::Allocator;

@@ -3,10 +3,12 @@
 ghost use Rattle.std.specs.Prelude.{◌≡◌, ◌++◌, OnErr, OnOk, codes};
 ghost use Rattle.std.specs.Io.KnownBytes.{Appends};
 ghost use Rattle.fuse_text.specs.Outputs.{AppendsSome};
-ghost use Rattle.fw_orders.specs.Stops.{bad_line_text, line_head, no_such_text, status_of, stop_text};
+ghost use Rattle.fw_orders.specs.Stops.{no_such_text, status_of, stop_text};
 
 use crate::fault::LinesFault;
-use fw_script::{OutputRefused, no_memory, write_number, write_text};
+use fuse_text::{
+    BAD_INPUT, OUTPUT_REFUSED, OutputRefused, bad_line, no_memory, write_number, write_text,
+};
 use std::io::Write;
 
 /// Why a run ends early.
@@ -20,40 +22,6 @@ pub(crate) enum Stop {
     NoSuchOrder { orders: u64 },
     NoMemory,
     OutputRefused,
-}
-
-/// Writes a line's number.
-fn write_head<F: Write>(faults: &mut F, number: u64) -> Result<(), OutputRefused>
-    ensures ok { OnOk result (Appends (F.contents faults.old) (F.contents faults.new) (line_head number)) }
-    ensures refused { OnErr result (AppendsSome (F.contents faults.old) (F.contents faults.new) (line_head number)) }
-{
-    write_text(faults, b"line ")?;
-    write_number(faults, number)?;
-    write_text(faults, b": ")
-}
-
-/// Writes words, to the end of a line.
-fn write_words<F: Write>(faults: &mut F, words: &[u8]) -> Result<(), OutputRefused>
-    ensures ok { OnOk result (Appends (F.contents faults.old) (F.contents faults.new) (words.now ++ codes "\n")) }
-    ensures refused { OnErr result (AppendsSome (F.contents faults.old) (F.contents faults.new)
-        (words.now ++ codes "\n")) }
-{
-    write_text(faults, words)?;
-    write_text(faults, b"\n")
-}
-
-/// Writes a line's number and its fault.
-fn write_bad_line<F: Write>(
-    faults: &mut F,
-    number: usize,
-    fault: LinesFault,
-) -> Result<(), OutputRefused>
-    ensures ok { OnOk result (Appends (F.contents faults.old) (F.contents faults.new) (bad_line_text number fault)) }
-    ensures refused { OnErr result (AppendsSome (F.contents faults.old) (F.contents faults.new)
-        (bad_line_text number fault)) }
-{
-    write_head(faults, number as u64)?;
-    write_words(faults, fault.words().as_bytes())
 }
 
 /// Writes how many orders there are, where another was asked for.
@@ -75,20 +43,17 @@ impl Stop {
         ensures silent { status_of self ≡ 5 → faults.new ≡ faults.old }
     {
         match self {
-            Stop::BadLine { number, fault } => {
-                let _ = write_bad_line(faults, number, fault);
-                1
-            }
+            Stop::BadLine { number, fault } => bad_line(number as u64, fault.words(), faults),
             Stop::TooLong => {
                 let _ = write_text(faults, b"an order has more than 256 messages\n");
-                1
+                BAD_INPUT
             }
             Stop::NoSuchOrder { orders } => {
                 let _ = write_no_such(faults, orders);
-                1
+                BAD_INPUT
             }
             Stop::NoMemory => no_memory(faults),
-            Stop::OutputRefused => 5,
+            Stop::OutputRefused => OUTPUT_REFUSED,
         }
     }
 }

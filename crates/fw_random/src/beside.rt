@@ -1,9 +1,10 @@
 //! A world of this project's own, in which the calls of a run are made again.
 
 use crate::text::{put, split_word, words_behind};
+use fuse_text::{is_hex_or_none, read_hex_or_none};
 use fw_drive::NoLine;
 use fw_reference::Reference;
-use fw_script::{Line, is_hex_or_none, read_hex_or_none, read_line, write_record};
+use fw_script::{Line, read_line, write_record};
 use fw_world::{Answer, Call, Event, Maps, Record, Refusal};
 use std::alloc::Allocator;
 

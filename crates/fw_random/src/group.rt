@@ -8,8 +8,8 @@ use crate::beside::Beside;
 use crate::plan::Plan;
 use crate::text::{put, put_number, word_at, words_behind};
 use frame_words::name_of_error;
+use fuse_text::read_number;
 use fw_drive::NoLine;
-use fw_script::read_number;
 use std::alloc::Allocator;
 
 /// A call.

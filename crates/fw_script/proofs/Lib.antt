@@ -7,6 +7,5 @@ pub mod Numbering
 pub mod Printing
 pub mod Saying
 pub mod SessionRuns
-pub mod Statuses
 pub mod Stepping
 pub mod WorldRuns

@@ -8,8 +8,9 @@ use Rattle.fw_script.specs.Running.{EachLinePrints, HasPrinted, LineEnds, LinesE
 use Rattle.fw_script.specs.Scripts.{Machine, Prints, no_line, next_line, nothing}
 use Rattle.fuse_text.specs.Words.{words_of}
 use Rattle.fw_script.specs.declared.line.Line.{Line}
-use Rattle.fw_script.specs.declared.stop.Stop.{Stop}
-use Rattle.fw_script.specs.declared.stop.Stop.TheVariants as stop
+use Rattle.fuse_text.specs.declared.stop.Stop.{Stop}
+use Rattle.fw_script.specs.declared.line.LineFault.{LineFault}
+use Rattle.fuse_text.specs.declared.stop.Stop.TheVariants as stop
 use Rattle.fw_script.proofs.Saying.{one_said, parts_of}
 use Rattle.std.proofs.KnownBytes.{Appends-trans, Appends-kept, Appends-nil}
 use Rattle.fuse_text.proofs.Writes.{some_all, some_then}
@@ -92,10 +93,10 @@ module _ {S A : Type 0} (m : Machine S A) (hex : Bool) (first : S) where
 
   -- Why a line ends the run.
   pub line_ended : (T : Type 0) → (lines : List Line) (k : ℕ) (d : Line) (mid last : S)
-      (old had has : Option (List ℕ)) (s : Stop) → k < length lines → Printed (take k lines) mid old had
+      (old had has : Option (List ℕ)) (s : Stop LineFault) → k < length lines → Printed (take k lines) mid old had
       → LineEnds {T = T} m hex mid (λ t. LineHasWords (get_or lines k d) (words_of t)) last (Err s) had has
       → (texts : List (List ℕ)) → Say texts lines → LinesEnd {T = T} m hex first texts last (Err s) old has
-  line_ended T lines k d mid last old had has (stop.CannotRead name) within printed ends texts said = absurd ends
+  line_ended T lines k d mid last old had has stop.CannotRead within printed ends texts said = absurd ends
   line_ended T lines k d mid last old had has (stop.BadLine number fault) within printed ends texts said = absurd ends
   line_ended T lines k d mid last old had has stop.NoMemory within printed (same, written) texts said =
       let parts = parts_of texts lines said (take k lines) (drop k lines) (sym (take-append-drop k lines)) in
@@ -149,11 +150,11 @@ module _ {S A : Type 0} (m : Machine S A) (hex : Bool) (first : S) where
   )
 
   pub all_ended : {T : Type 0} → (lines : List Line) (k : ℕ) (last : S) (old had has : Option (List ℕ))
-      (r : Result T Stop) → IfErr r (λ s. s ≡ stop.OutputRefused) → take k lines ≡ lines
+      (r : Result T (Stop LineFault)) → IfErr r (λ s. s ≡ stop.OutputRefused) → take k lines ≡ lines
       → Printed (take k lines) last old had → Keeps had has
       → (texts : List (List ℕ)) → Say texts lines → LinesEnd m hex first texts last r old has
   all_ended lines k last old had has (Ok done) is all printed kept texts said =
       all_went lines k last old had has done all printed kept texts said
   all_ended {T} lines k last old had has (Err s) is all printed kept texts said =
-      subst (λ (e : Stop). LinesEnd {T = T} m hex first texts last (Err e) old has) (sym is)
+      subst (λ (e : Stop LineFault). LinesEnd {T = T} m hex first texts last (Err e) old has) (sym is)
       (all_refused T lines k last old had has all printed kept texts said)

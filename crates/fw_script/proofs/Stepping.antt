@@ -7,8 +7,9 @@ use Rattle.fuse_text.specs.Nodes.{nodes_text}
 use Rattle.fw_script.specs.Records.{event_text}
 use Rattle.fw_script.specs.Running.{EachLinePrints, LineEnds}
 use Rattle.fw_script.specs.Scripts.{IsPut, Machine, PrintsLine, LineSaysEvent, SaysShow, event, nodes}
-use Rattle.fw_script.specs.declared.stop.Stop.{Stop}
-use Rattle.fw_script.specs.declared.stop.Stop.TheVariants as stop
+use Rattle.fuse_text.specs.declared.stop.Stop.{Stop}
+use Rattle.fw_script.specs.declared.line.LineFault.{LineFault}
+use Rattle.fuse_text.specs.declared.stop.Stop.TheVariants as stop
 use Rattle.fw_world.specs.declared.event.Event.{Event}
 use Rattle.fw_world.specs.declared.record.Record.{Record}
 
@@ -60,7 +61,7 @@ module _ {S A : Type 0} (m : Machine S A) (hex : Bool) where
   }
 
   -- the same of other lines that say it
-  pub line_map : {T : Type 0} → (old : S) (P Q : List ℕ → Type 0) (new : S) (r : Result T Stop)
+  pub line_map : {T : Type 0} → (old : S) (P Q : List ℕ → Type 0) (new : S) (r : Result T (Stop LineFault))
       (had has : Option (List ℕ)) → ((line : List ℕ) → Q line → P line) → LineEnds m hex old P new r had has
       → LineEnds m hex old Q new r had has
   line_map old P Q new (Ok done) had has map (text, comes, written) =
@@ -68,7 +69,7 @@ module _ {S A : Type 0} (m : Machine S A) (hex : Bool) where
   line_map old P Q new (Err stop.OutputRefused) had has map (text, comes, written) =
       (text, comes_map old P Q text new map comes, written)
   line_map old P Q new (Err stop.NoMemory) had has map ends = ends
-  line_map old P Q new (Err (stop.CannotRead name)) had has map ends = absurd ends
+  line_map old P Q new (Err stop.CannotRead) had has map ends = absurd ends
   line_map old P Q new (Err (stop.BadLine number fault)) had has map ends = absurd ends
 
 -- a result that is this error

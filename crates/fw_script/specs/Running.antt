@@ -6,8 +6,9 @@ use Rattle.fuse_text.specs.Outputs.{AppendsSome}
 use Rattle.fw_script.specs.Scripts.{FirstFaultIs, IsGoodScript, IsPassedOver, Machine, Prints, PrintsAll, PrintsFirst, PrintsLine, PrintsSome}
 use Rattle.fuse_text.specs.Words.{words_of}
 use Rattle.fw_script.specs.declared.line.Line.{Line}
-use Rattle.fw_script.specs.declared.stop.Stop.{Stop}
-use Rattle.fw_script.specs.declared.stop.Stop.TheVariants as stop
+use Rattle.fuse_text.specs.declared.stop.Stop.{Stop}
+use Rattle.fw_script.specs.declared.line.LineFault.{LineFault}
+use Rattle.fuse_text.specs.declared.stop.Stop.TheVariants as stop
 use Rattle.fw_world.specs.declared.event.Event.{Event}
 use Rattle.fw_world.specs.declared.record.Record.{Record}
 
@@ -28,7 +29,7 @@ pub record EachLinePrints {S A : Type 0} (m : Machine S A) (hex : Bool) (old : S
 
 -- One of these lines was done: its text was written; or memory ran out before it began; or the output refused.
 abbrev pub LineEnds : {S A T : Type 0} → Machine S A → Bool → (old : S) → (List ℕ → Type 0) → (new : S)
-    → Result T Stop → (had has : Option (List ℕ)) → Type 0
+    → Result T (Stop LineFault) → (had has : Option (List ℕ)) → Type 0
 LineEnds m hex old IsLine new (Ok done) had has =
     (text : List ℕ) × EachLinePrints m hex old IsLine text new × Appends had has text
 LineEnds m hex old IsLine new (Err stop.OutputRefused) had has =
@@ -45,7 +46,7 @@ pub record HasPrinted {S A : Type 0} (m : Machine S A) (hex : Bool) (first : S) 
 
 -- All lines were done; or memory ran out after some of them; or the output refused in them.
 abbrev pub LinesEnd : {S A T : Type 0} → Machine S A → Bool → (first : S) → List (List ℕ) → (last : S)
-    → Result T Stop → (had has : Option (List ℕ)) → Type 0
+    → Result T (Stop LineFault) → (had has : Option (List ℕ)) → Type 0
 LinesEnd m hex first lines last (Ok done) had has =
     (text : List ℕ) × HasPrinted m hex first lines text last × Appends had has text
 LinesEnd m hex first lines last (Err stop.OutputRefused) had has =
@@ -58,7 +59,7 @@ LinesEnd m hex first lines last (Err other) had has = ⊥
 
 -- A run of these lines ended: all of its text was written; or memory ran out before or after some lines; or the
 -- output refused in them.
-abbrev pub RunEnds : {T : Type 0} → (List (List ℕ) → List ℕ → Type 0) → List (List ℕ) → Result T Stop
+abbrev pub RunEnds : {T : Type 0} → (List (List ℕ) → List ℕ → Type 0) → List (List ℕ) → Result T (Stop LineFault)
     → (had has : Option (List ℕ)) → Type 0
 RunEnds IsRun lines (Ok done) had has = (text : List ℕ) × IsRun lines text × Appends had has text
 RunEnds IsRun lines (Err stop.OutputRefused) had has =
@@ -70,33 +71,33 @@ RunEnds IsRun lines (Err stop.NoMemory) had has =
 RunEnds IsRun lines (Err other) had has = ⊥
 
 -- why a script is not read
-abbrev pub ReadingEnds : List ℕ → Stop → Type 0
-ReadingEnds name (stop.CannotRead n) = n.now ≡ name
-ReadingEnds name stop.NoMemory = Unit {0}
-ReadingEnds name other = ⊥
+abbrev pub ReadingEnds : Stop LineFault → Type 0
+ReadingEnds stop.CannotRead = Unit {0}
+ReadingEnds stop.NoMemory = Unit {0}
+ReadingEnds other = ⊥
 
 -- How a run ends whose script was to be read, judged and run.
-abbrev pub InputEnds : {T : Type 0} → (List (List ℕ) → List ℕ → Type 0) → (name : List ℕ)
-    → (script : Option (List ℕ)) → Result T Stop → (had has : Option (List ℕ)) → Type 0
-InputEnds IsRun name script (Ok done) had has = PrintsAll IsRun script had has
-InputEnds IsRun name script (Err stop.OutputRefused) had has = PrintsSome IsRun script had has
-InputEnds IsRun name script (Err stop.NoMemory) had has = Keeps had has ⊎ PrintsFirst IsRun script had has
-InputEnds IsRun name script (Err (stop.CannotRead n)) had has = n.now ≡ name
-InputEnds IsRun name script (Err (stop.BadLine number fault)) had has =
+abbrev pub InputEnds : {T : Type 0} → (List (List ℕ) → List ℕ → Type 0) → (script : Option (List ℕ))
+    → Result T (Stop LineFault) → (had has : Option (List ℕ)) → Type 0
+InputEnds IsRun script (Ok done) had has = PrintsAll IsRun script had has
+InputEnds IsRun script (Err stop.OutputRefused) had has = PrintsSome IsRun script had has
+InputEnds IsRun script (Err stop.NoMemory) had has = Keeps had has ⊎ PrintsFirst IsRun script had has
+InputEnds IsRun script (Err stop.CannotRead) had has = Unit {0}
+InputEnds IsRun script (Err (stop.BadLine number fault)) had has =
     IfSome script (λ s. FirstFaultIs s number fault)
 
 -- why the lines of a script are not kept: its first bad line, or out of memory for good ones
-abbrev pub JudgingEnds : List ℕ → Stop → Type 0
+abbrev pub JudgingEnds : List ℕ → Stop LineFault → Type 0
 JudgingEnds script (stop.BadLine number fault) = FirstFaultIs script number fault
 JudgingEnds script stop.NoMemory = IsGoodScript script
 JudgingEnds script other = ⊥
 
 -- why a script is not read or not kept
-abbrev pub UnreadEnds : (name : List ℕ) → (script : Option (List ℕ)) → Stop → Type 0
-UnreadEnds name script (stop.CannotRead n) = n.now ≡ name
-UnreadEnds name script (stop.BadLine number fault) = IfSome script (λ s. FirstFaultIs s number fault)
-UnreadEnds name script stop.NoMemory = Unit {0}
-UnreadEnds name script other = ⊥
+abbrev pub UnreadEnds : (script : Option (List ℕ)) → Stop LineFault → Type 0
+UnreadEnds script stop.CannotRead = Unit {0}
+UnreadEnds script (stop.BadLine number fault) = IfSome script (λ s. FirstFaultIs s number fault)
+UnreadEnds script stop.NoMemory = Unit {0}
+UnreadEnds script other = ⊥
 
 -- A run over a link whose end is not known to be lost or not.
 abbrev pub IsEither : (Bool → List (List ℕ) → List ℕ → Type 0) → List (List ℕ) → List ℕ → Type 0
@@ -104,13 +105,13 @@ IsEither IsRun lines text = (is_lost : Bool) × IsRun is_lost lines text
 
 -- A run over a link ended: all of its text was written, and the link was lost or was not; or it stopped early as one of
 -- a world does, over a link that was lost by then or was not.
-abbrev pub SessionEnds : (Bool → List (List ℕ) → List ℕ → Type 0) → List (List ℕ) → Result Bool Stop
+abbrev pub SessionEnds : (Bool → List (List ℕ) → List ℕ → Type 0) → List (List ℕ) → Result Bool (Stop LineFault)
     → (had has : Option (List ℕ)) → Type 0
 SessionEnds IsRun lines (Ok is_lost) had has = (text : List ℕ) × IsRun is_lost lines text × Appends had has text
 SessionEnds IsRun lines (Err stop) had has = RunEnds {T = Bool} (IsEither IsRun) lines (Err stop) had has
 
 -- How a run ends whose script was to be read, judged and run.
-abbrev pub OverEnds : (Bool → List (List ℕ) → List ℕ → Type 0) → (name : List ℕ) → (script : Option (List ℕ))
-    → Result Bool Stop → (had has : Option (List ℕ)) → Type 0
-OverEnds IsRun name script (Ok is_lost) had has = PrintsAll (IsRun is_lost) script had has
-OverEnds IsRun name script (Err stop) had has = InputEnds {T = Bool} (IsEither IsRun) name script (Err stop) had has
+abbrev pub OverEnds : (Bool → List (List ℕ) → List ℕ → Type 0) → (script : Option (List ℕ))
+    → Result Bool (Stop LineFault) → (had has : Option (List ℕ)) → Type 0
+OverEnds IsRun script (Ok is_lost) had has = PrintsAll (IsRun is_lost) script had has
+OverEnds IsRun script (Err stop) had has = InputEnds {T = Bool} (IsEither IsRun) script (Err stop) had has

@@ -10,8 +10,8 @@ use crate::arguments::{
     no_words, number_and_signal, number_and_text, one_number, two_numbers_and_minor,
 };
 use crate::call_line::line_of_call;
+use crate::fault_words::words_of_fault;
 use crate::form::{Form, ReadForm, WordForm, split_form};
-use crate::stop::words_of_fault;
 use fw_world::{Event, Pick};
 use thiserror::Error;
 

@@ -11,8 +11,7 @@ ghost use Rattle.fuse_text.specs.Lines.{lines_left, lines_of};
 ghost use Rattle.fuse_text.specs.Words.{words_of};
 
 use crate::line::{Line, LineFault, read_line};
-use crate::stop::Stop;
-use fuse_text::{find_far, split_at_first};
+use fuse_text::{Stop, find_far, split_at_first};
 use std::alloc::Allocator;
 
 /// What is left of a script, line by line.
@@ -69,7 +68,7 @@ fn read_any(line: &[u8]) -> Result<Option<Line<'_>>, LineFault>
 
 /// Why a script is refused whose lines cannot be kept: for its first line with a fault, or else as out of memory.
 #[cold]
-fn refused_lines(script: &[u8]) -> Stop<'static>
+fn refused_lines(script: &[u8]) -> Stop<LineFault>
     ensures { JudgingEnds script.now result }
 {
     let mut number = 0;
@@ -86,7 +85,7 @@ fn refused_lines(script: &[u8]) -> Stop<'static>
 pub(crate) fn read_lines<A: Allocator>(
     alloc: A,
     script: &[u8],
-) -> Result<Vec<Line<'_>, A>, Stop<'static>>
+) -> Result<Vec<Line<'_>, A>, Stop<LineFault>>
     ensures good { IfOk result (λ lines. IsGoodScript script.now × All IsWritten lines.items) }
     ensures say { IfOk result (λ lines. Say (lines_of script.now) lines.items) }
     ensures refused { IfErr result (JudgingEnds script.now) }

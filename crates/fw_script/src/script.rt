@@ -14,16 +14,16 @@ ghost use Rattle.fw_script.specs.Running.{SessionEnds, UnreadEnds};
 ghost use Rattle.fw_script.specs.Scripts.{IsGoodScript, IsPut, IsRunOf, IsRunOver, PrintsAll, PrintsFirst};
 ghost use Rattle.fw_script.specs.Scripts.{PrintsSome, LineSaysEvent, SaysShow};
 ghost use Rattle.fuse_text.specs.Lines.{lines_of};
-ghost use Rattle.fw_script.specs.Stops.{SaysFault, status_of};
+ghost use Rattle.fw_script.specs.Stops.{SaysFault};
+ghost use Rattle.fuse_text.specs.Stops.{status_of};
 ghost use Rattle.fuse_text.specs.Words.{words_of};
 
-use crate::line::Line;
+use crate::line::{Line, LineFault};
 use crate::lines::read_lines;
 use crate::machine::Machine;
 use crate::records::write_event;
-use crate::stop::Stop;
 use fuse_spec::NodeCount;
-use fuse_text::{OutputRefused, read_hex_or_none, write_nodes};
+use fuse_text::{LOST, OutputRefused, Stop, read_hex_or_none, write_nodes};
 use fw_link::Link;
 use fw_world::{Call, Event, Lists, Maps, Record, SessionOf, Tables, WorldOf};
 use std::alloc::{AllocError, Allocator, Global};
@@ -33,9 +33,6 @@ use std::marker::Model;
 /// The most records that one event results in: its own, one of a lost link, and an answer for each
 /// of 64 calls.
 const MAX_RECORDS: usize = 66;
-
-/// The exit status where the link was lost.
-const LINK_LOST: u8 = 4;
 
 /// Room that one event after another uses: its records, and the bytes that a call puts into a file.
 #[derive(Drop)]
@@ -83,7 +80,7 @@ fn run_event<A: Allocator + Copy, M: Machine<A>, W: Write>(
     records: &mut Vec<Record<A>, A>,
     hex: bool,
     out: &mut W,
-) -> Result<(), Stop<'static>>
+) -> Result<(), Stop<LineFault>>
     ensures { LineEnds M.acts hex (M.state machine.old) (λ line. LineSaysEvent line event.now) (M.state machine.new)
         result (W.contents out.old) (W.contents out.new) }
 {
@@ -137,7 +134,7 @@ fn show_nodes<A: Allocator + Copy, M: Machine<A>, W: Write>(
     kernel: &[NodeCount],
     server: &[NodeCount],
     out: &mut W,
-) -> Result<(), Stop<'static>>
+) -> Result<(), Stop<LineFault>>
     requires counted { kernel.now ≡ M.acts.counted (M.state machine.now) }
     requires held { server.now ≡ M.acts.held (M.state machine.now) }
     ensures { (hex : Bool) → LineEnds M.acts hex (M.state machine.now) SaysShow (M.state machine.now)
@@ -154,7 +151,7 @@ fn show_nodes<A: Allocator + Copy, M: Machine<A>, W: Write>(
 fn show<A: Allocator + Copy, M: Machine<A>, W: Write>(
     machine: &M,
     out: &mut W,
-) -> Result<(), Stop<'static>>
+) -> Result<(), Stop<LineFault>>
     ensures { (hex : Bool) → LineEnds M.acts hex (M.state machine.now) SaysShow (M.state machine.now)
         result (W.contents out.old) (W.contents out.new) }
 {
@@ -174,7 +171,7 @@ fn run_line<A: Allocator + Copy, M: Machine<A>, W: Write>(
     room: &mut Room<A>,
     hex: bool,
     out: &mut W,
-) -> Result<(), Stop<'static>>
+) -> Result<(), Stop<LineFault>>
     requires { IsWritten line.now }
     ensures { LineEnds M.acts hex (M.state machine.old) (λ text. LineHasWords line.now (words_of text)) (M.state machine.new)
         result (W.contents out.old) (W.contents out.new) }
@@ -200,7 +197,7 @@ fn run_lines<A: Allocator + Copy, M: Machine<A>, W: Write>(
     room: &mut Room<A>,
     hex: bool,
     out: &mut W,
-) -> Result<(), Stop<'static>>
+) -> Result<(), Stop<LineFault>>
     requires { All IsWritten lines.now }
     ensures { (texts : List (List ℕ)) → Say texts lines.now → LinesEnd M.acts hex (M.state machine.old) texts
         (M.state machine.new) result (W.contents out.old) (W.contents out.new) }
@@ -228,7 +225,7 @@ fn run_events<T: Tables, W: Write>(
     lines: &[Line<'_>],
     hex: bool,
     out: &mut W,
-) -> Result<(), Stop<'static>>
+) -> Result<(), Stop<LineFault>>
     requires { All IsWritten lines.now }
     ensures { (texts : List (List ℕ)) → Say texts lines.now → RunEnds (IsRunOf T.Heap hex) texts result
         (W.contents out.old) (W.contents out.new) }
@@ -252,7 +249,7 @@ fn run_session<T: Tables, L: Link + Drop, W: Write>(
     lines: &[Line<'_>],
     hex: bool,
     out: &mut W,
-) -> Result<bool, Stop<'static>>
+) -> Result<bool, Stop<LineFault>>
     requires { All IsWritten lines.now }
     ensures { (texts : List (List ℕ)) → Say texts lines.now → SessionEnds (IsRunOver T.Heap L.carries L.failed link hex)
         texts result (W.contents out.old) (W.contents out.new) }
@@ -274,7 +271,7 @@ fn run_session<T: Tables, L: Link + Drop, W: Write>(
 }
 
 /// Hands on all that was written.
-fn flush<W: Write>(out: &mut W) -> Result<(), Stop<'static>>
+fn flush<W: Write>(out: &mut W) -> Result<(), Stop<LineFault>>
     ensures refused { IfErr result (λ stop. stop ≡ Stop.OutputRefused) }
     ensures bytes { Keeps (W.contents out.old) (W.contents out.new) }
 {
@@ -285,19 +282,18 @@ fn flush<W: Write>(out: &mut W) -> Result<(), Stop<'static>>
 }
 
 /// The bytes of a script.
-fn read_script<'a, A: Allocator, R: Read>(
+fn read_script<A: Allocator, R: Read>(
     alloc: A,
-    name: &'a str,
     input: &mut R,
-) -> Result<Vec<u8, A>, Stop<'a>>
+) -> Result<Vec<u8, A>, Stop<LineFault>>
     ensures ok { IfOk result (λ script. IfSome (R.remaining input.old) (λ bytes. script.items ≡ bytes)) }
-    ensures err { IfErr result (ReadingEnds name.now) }
+    ensures err { IfErr result ReadingEnds }
 {
     let mut script = Vec::new(alloc);
     match input.read_to_end(&mut script) {
         Ok(_) => Ok(script),
         Err(error) if error.kind() == ErrorKind::OutOfMemory => Err(Stop::NoMemory),
-        Err(_) => Err(Stop::CannotRead { name }),
+        Err(_) => Err(Stop::CannotRead),
     }
 }
 
@@ -309,7 +305,7 @@ fn run_text<A: Allocator + Copy, L: Link + Drop, W: Write>(
     text: &[u8],
     hex: bool,
     out: &mut W,
-) -> Result<bool, Stop<'static>>
+) -> Result<bool, Stop<LineFault>>
     ensures { SessionEnds (IsRunOver A L.carries L.failed link hex) (lines_of text.now) result
         (W.contents out.old) (W.contents out.new) }
 {
@@ -338,13 +334,13 @@ impl<A: Allocator> Model for Script<A> {
 
 impl<A: Allocator + Copy> Script<A> {
     /// Reads a script, and judges its lines.
-    fn read_from<'a, R: Read>(alloc: A, name: &'a str, input: &mut R) -> Result<Script<A>, Stop<'a>>
+    fn read_from<R: Read>(alloc: A, input: &mut R) -> Result<Script<A>, Stop<LineFault>>
         ensures good { IfOk result IsGoodScript }
         ensures judged { OnOk result (IfSome (R.remaining input.old) IsGoodScript) }
         ensures text { IfOk result (λ script. IfSome (R.remaining input.old) (λ bytes. script ≡ bytes)) }
-        ensures refused { IfErr result (UnreadEnds name.now (R.remaining input.old)) }
+        ensures refused { IfErr result (UnreadEnds (R.remaining input.old)) }
     {
-        let text = read_script(alloc, name, input)?;
+        let text = read_script(alloc, input)?;
         let lines = read_lines(alloc, text.as_slice())?;
         drop(lines);
         Ok(Script { text })
@@ -368,9 +364,9 @@ impl<A: Allocator + Copy> Script<A> {
             (F.contents faults.old) (F.contents faults.new) (codes "no memory\n")) }
         ensures no_fault { OnOk result (faults.new ≡ faults.old) }
     {
-        match Script::read_from(alloc, name, input) {
+        match Script::read_from(alloc, input) {
             Ok(script) => Ok(script),
-            Err(stop) => Err(stop.report(faults)),
+            Err(stop) => Err(stop.report(name, faults)),
         }
     }
 
@@ -401,49 +397,48 @@ impl<A: Allocator + Copy> Script<A> {
     {
         match run_text(alloc, link, self.text.as_slice(), hex, out) {
             Ok(false) => 0,
-            Ok(true) => LINK_LOST,
-            Err(stop) => stop.report(faults),
+            Ok(true) => LOST,
+            // No file is read here that a line could name.
+            Err(stop) => stop.report("", faults),
         }
     }
 }
 
 /// Reads a script, judges its lines, and runs it.
-fn run_input<'a, T: Tables, R: Read, W: Write>(
+fn run_input<T: Tables, R: Read, W: Write>(
     alloc: T::Heap,
-    name: &'a str,
     hex: bool,
     input: &mut R,
     out: &mut W,
-) -> Result<(), Stop<'a>>
-    ensures ends { InputEnds (IsRunOf T.Heap hex) name.now (R.remaining input.old) result
+) -> Result<(), Stop<LineFault>>
+    ensures ends { InputEnds (IsRunOf T.Heap hex) (R.remaining input.old) result
         (W.contents out.old) (W.contents out.new) }
     ensures judged { OnOk result (IfSome (R.remaining input.old) IsGoodScript) }
     ensures refused { IfErr result (λ stop. status_of stop ≡ 5 →
         IfSome (R.remaining input.old) IsGoodScript) }
     ensures silent { IfErr result (λ stop. status_of stop ≡ 1 → out.new ≡ out.old) }
 {
-    let script = read_script(alloc, name, input)?;
+    let script = read_script(alloc, input)?;
     let lines = read_lines(alloc, script.as_slice())?;
     run_events::<T, W>(alloc, lines.as_slice(), hex, out)
 }
 
 /// Reads a script, judges its lines, and runs it over a link. Says whether the link was lost.
-fn run_input_over<'a, A: Allocator + Copy, L: Link + Drop, R: Read, W: Write>(
+fn run_input_over<A: Allocator + Copy, L: Link + Drop, R: Read, W: Write>(
     alloc: A,
     link: L,
-    name: &'a str,
     hex: bool,
     input: &mut R,
     out: &mut W,
-) -> Result<bool, Stop<'a>>
-    ensures ends { OverEnds (IsRunOver A L.carries L.failed link hex) name.now (R.remaining input.old) result
+) -> Result<bool, Stop<LineFault>>
+    ensures ends { OverEnds (IsRunOver A L.carries L.failed link hex) (R.remaining input.old) result
         (W.contents out.old) (W.contents out.new) }
     ensures judged { OnOk result (IfSome (R.remaining input.old) IsGoodScript) }
     ensures refused { IfErr result (λ stop. status_of stop ≡ 5 →
         IfSome (R.remaining input.old) IsGoodScript) }
     ensures silent { IfErr result (λ stop. status_of stop ≡ 1 → out.new ≡ out.old) }
 {
-    let script = read_script(alloc, name, input)?;
+    let script = read_script(alloc, input)?;
     let lines = read_lines(alloc, script.as_slice())?;
     run_session::<Maps<A>, L, W>(alloc, link, lines.as_slice(), hex, out)
 }
@@ -460,9 +455,9 @@ fn run_on<T: Tables, R: Read, W: Write, F: Write>(
     ensures { EndsScript W.contents F.contents (IsRunOf T.Heap hex) name.now (R.remaining input.old) out.old out.new
         faults.old faults.new result }
 {
-    match run_input::<T, R, W>(alloc, name, hex, input, out) {
+    match run_input::<T, R, W>(alloc, hex, input, out) {
         Ok(()) => 0,
-        Err(stop) => stop.report(faults),
+        Err(stop) => stop.report(name, faults),
     }
 }
 
@@ -532,9 +527,9 @@ pub fn run_over<A: Allocator + Copy, L: Link + Drop, R: Read, W: Write, F: Write
         (codes "no memory\n") }
     ensures no_fault { (result ≡ 0) ⊎ (result ≡ 4) ⊎ (result ≡ 5) → faults.new ≡ faults.old }
 {
-    match run_input_over(alloc, link, name, hex, input, out) {
+    match run_input_over(alloc, link, hex, input, out) {
         Ok(false) => 0,
-        Ok(true) => LINK_LOST,
-        Err(stop) => stop.report(faults),
+        Ok(true) => LOST,
+        Err(stop) => stop.report(name, faults),
     }
 }

@@ -1,12 +1,13 @@
 //! The rows of a picture, from the lines of a capture.
 
 ghost use Rattle.std.specs.Prelude.{◌∷◌, [], Contains, IfErr};
-ghost use Rattle.fw_decode.specs.Statuses.{status_of};
+ghost use Rattle.fuse_text.specs.Stops.{status_of};
 
 use crate::counts::Counts;
 use crate::row::{Row, pass_over, row_of};
-use fuse_capture::{CaptureLine, read_line, read_transfer};
-use fw_decode::{Decoding, Stop, next_line};
+use fuse_capture::{CaptureFault, CaptureLine, read_line, read_transfer};
+use fuse_text::Stop;
+use fw_decode::{Decoding, next_line};
 use std::alloc::{Allocator, Global};
 use std::io::BufRead;
 
@@ -30,7 +31,7 @@ impl<A: Allocator + Copy> Session<A> {
         around: u64,
         number: u64,
         line: CaptureLine<'_>,
-    ) -> Result<(), Stop<'static>> {
+    ) -> Result<(), Stop<CaptureFault>> {
         let Ok(transfer) = read_transfer(line, &mut self.frame) else {
             return Err(Stop::NoMemory);
         };
@@ -45,7 +46,7 @@ impl<A: Allocator + Copy> Session<A> {
     }
 
     /// Adds a line, by its text.
-    fn add_text(&mut self, around: u64, number: u64, text: &[u8]) -> Result<(), Stop<'static>>
+    fn add_text(&mut self, around: u64, number: u64, text: &[u8]) -> Result<(), Stop<CaptureFault>>
         ensures { IfErr result (λ stop. Contains (1 ∷ 3 ∷ []) (status_of stop)) }
     {
         match read_line(text) {
@@ -64,12 +65,11 @@ impl<A: Allocator + Copy> Session<A> {
 /// # Errors
 ///
 /// The capture cannot be read, the first bad line up to there, or out of memory.
-pub(crate) fn read_rows<'a, A: Allocator + Copy, R: BufRead>(
+pub(crate) fn read_rows<A: Allocator + Copy, R: BufRead>(
     alloc: A,
-    name: &'a str,
     around: u64,
     input: &mut R,
-) -> Result<Vec<Row<A>, A>, Stop<'a>>
+) -> Result<Vec<Row<A>, A>, Stop<CaptureFault>>
     ensures { IfErr result (λ stop. Contains (1 ∷ 3 ∷ []) (status_of stop)) }
 {
     let mut session = Session {
@@ -81,7 +81,7 @@ pub(crate) fn read_rows<'a, A: Allocator + Copy, R: BufRead>(
     };
     let mut text = Vec::new(alloc);
     for before in 0..around.saturating_add(BESIDE) {
-        match next_line(name, input, &mut text) {
+        match next_line(input, &mut text) {
             Ok(true) => {}
             Ok(false) => break,
             Err(stop) => return Err(stop),

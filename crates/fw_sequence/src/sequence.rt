@@ -1,26 +1,27 @@
 //! The command `draw` of a capture.
 
 ghost use Rattle.std.specs.Prelude.{◌∷◌, [], Contains, IfErr};
-ghost use Rattle.fw_decode.specs.Statuses.{status_of};
+ghost use Rattle.fuse_text.specs.Stops.{status_of};
 ghost use Rattle.fw_sequence.specs.Endings.{EndsSequence};
 
 use crate::rows::read_rows;
 use crate::svg::inner_text;
-use fw_decode::Stop;
+use fuse_capture::CaptureFault;
+use fuse_text::Stop;
 use fw_draw::print_svg;
 use std::alloc::Allocator;
 use std::io::{BufRead, Write};
 
 /// The text of the picture of the lines around one.
-fn draw<'a, A: Allocator + Copy, R: BufRead>(
+fn draw<A: Allocator + Copy, R: BufRead>(
     alloc: A,
-    name: &'a str,
+    name: &str,
     around: u64,
     input: &mut R,
-) -> Result<Vec<u8, A>, Stop<'a>>
+) -> Result<Vec<u8, A>, Stop<CaptureFault>>
     ensures { IfErr result (λ stop. Contains (1 ∷ 3 ∷ []) (status_of stop)) }
 {
-    let rows = match read_rows(alloc, name, around, input) {
+    let rows = match read_rows(alloc, around, input) {
         Ok(rows) => rows,
         Err(stop) => return Err(stop),
     };
@@ -48,7 +49,7 @@ pub fn draw_capture<A: Allocator + Copy, R: BufRead, W: Write, F: Write>(
 {
     let inner = match draw(alloc, name, around, input) {
         Ok(inner) => inner,
-        Err(stop) => return stop.report(faults),
+        Err(stop) => return stop.report(name, faults),
     };
     match print_svg(out, inner.as_slice()) {
         Ok(()) => 0,

@@ -5,7 +5,8 @@ ghost use Rattle.std.specs.Prelude.{◌<◌};
 use crate::form::{Form, Printer};
 use fk_kernel::{Answer, ListedName, Listing};
 use fuse_spec::{Attributes, Kind};
-use fw_script::{OutputRefused, word_of_kind};
+use fuse_text::OutputRefused;
+use fw_script::word_of_kind;
 use std::alloc::Allocator;
 use std::io::Write;
 

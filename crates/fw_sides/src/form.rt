@@ -1,6 +1,6 @@
 //! What is printed of a line: words as scripts print them, or one JSON object.
 
-use fw_script::{OutputRefused, write_hex};
+use fuse_text::{OutputRefused, write_hex};
 use std::io::Write;
 
 /// In which form it is printed.

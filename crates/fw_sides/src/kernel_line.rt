@@ -7,7 +7,8 @@ ghost use Rattle.fw_sides.specs.KernelLines.{SaysEvent, SaysLine};
 
 use crate::words::first_word;
 use fk_kernel::KernelEvent;
-use fw_script::{Line, LineFault, is_hex_or_none, read_line};
+use fuse_text::is_hex_or_none;
+use fw_script::{Line, LineFault, read_line};
 use fw_world::Event;
 
 /// What a line says to a kernel by itself.

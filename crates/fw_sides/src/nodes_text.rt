@@ -2,8 +2,7 @@
 
 use crate::form::{Form, Printer};
 use fuse_spec::NodeCount;
-use fuse_text::write_nodes;
-use fw_script::OutputRefused;
+use fuse_text::{OutputRefused, write_nodes};
 use std::io::Write;
 
 /// Prints a node as a JSON object.

@@ -2,7 +2,8 @@
 
 use crate::form::{Form, Printer};
 use fuse_spec::{Refusal, WriteResult};
-use fw_script::{LineFault, OutputRefused, name_of_refusal, number_of_refusal};
+use fuse_text::OutputRefused;
+use fw_script::{LineFault, name_of_refusal, number_of_refusal};
 use std::io::Write;
 
 /// The number of what a writer gets: 0, ENOENT or EINVAL.

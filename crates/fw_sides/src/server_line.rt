@@ -7,7 +7,8 @@ ghost use Rattle.fw_sides.specs.ServerLines.{SaysServerEvent, SaysServerLine, se
 
 use crate::words::{first_word, two_words};
 use fs_server::ServerEvent;
-use fw_script::{Line, LineFault, is_hex_or_none, read_line, read_number};
+use fuse_text::{is_hex_or_none, read_number};
+use fw_script::{Line, LineFault, read_line};
 use fw_world::{Event, WriteResult};
 
 /// What a line says to a server by itself.

@@ -4,7 +4,7 @@ use crate::form::{Form, Printer};
 use crate::refusal_text::{print_refusal, result_number};
 use fs_server::{Done, ServerFault, ServerRefused, ServerStep, Taken};
 use fuse_frames::Sent;
-use fw_script::OutputRefused;
+use fuse_text::OutputRefused;
 use std::alloc::Allocator;
 use std::io::Write;
 

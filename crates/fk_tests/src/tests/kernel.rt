@@ -1,9 +1,9 @@
 //! Steps of a kernel over any tables, and what each must give: a method that is called of a kernel over maps
 //! takes some six seconds more to check.
 
-use crate::tests::{are_nodes, assert_right};
 use crate::tests::digits::{spells, unhex};
 use crate::tests::listings::{Listed, are_names};
+use crate::tests::{are_nodes, assert_right};
 use fail_at::{FailAt, Outcome, Tried, first_wrong, judged};
 use fk_kernel::{Answer, Call, KernelOf, Pick};
 use fk_lookup_count::{CountTable, KernelNodes};

@@ -4,8 +4,8 @@
 use super::machine::{Machine, MachineTest, try_on_list_world, try_on_session, try_on_world};
 use super::rows::{Row, lists};
 use fail_at::FailAt;
-use fuse_text::{read_hex, write_nodes};
-use fw_script::{Line, OutputRefused, read_line, write_hex, write_record};
+use fuse_text::{OutputRefused, read_hex, write_hex, write_nodes};
+use fw_script::{Line, read_line, write_record};
 use fw_world::{Call, Event, Outcome, Record, Refusal};
 use std::alloc::{AllocError, Allocator, Global};
 use std::io;

@@ -1,6 +1,7 @@
 //! Lines that are no events, and lines that are passed over.
 
-use fw_script::{Lines, Words, run_script, split_at, split_word};
+use fuse_text::{Words, split_at, split_word};
+use fw_script::{Lines, run_script};
 use std::alloc::Global;
 use std::process::Abort;
 use std::test::Fail;

@@ -26,7 +26,11 @@ fn assert_counts(rt: &impl Abort, nodes: &[NodeCount], told: &Told, turn: u64) {
     let mut counts = 0u64;
     for node in nodes {
         let nodeid = node.nodeid;
-        assert_eq!(rt; node.count, told.count(nodeid), "turn {turn}, node {nodeid}");
+        assert_eq!(rt;
+            node.count,
+            told.count(nodeid),
+            "turn {turn}, node {nodeid}"
+        );
         counts = counts.wrapping_add(node.count);
     }
     assert_eq!(rt; counts, told.nodes.len() as u64, "turn {turn}");

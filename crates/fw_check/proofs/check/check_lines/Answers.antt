@@ -1,5 +1,5 @@
 use Rattle.std.proofs.Common.{◌+◌, Ok, refl, inr, subst}
-use Rattle.fw_check.specs.declared.stop.Stop.TheVariants.{NoMemory}
+use Rattle.fuse_text.specs.declared.stop.Stop.TheVariants.{NoMemory}
 use Rattle.fw_check.specs.Running.{IsUpTo, NextEnds, StopsIn, seen_by}
 use Rattle.fw_check.proofs.CheckLaws.{at_start, map_some, next_unread}
 use Rattle.fw_check.proofs.check.check_lines.Goals as goal

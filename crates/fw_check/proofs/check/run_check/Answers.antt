@@ -1,8 +1,10 @@
 use Rattle.std.proofs.Common.{arith, refl}
+use Rattle.fuse_text.specs.Stops.{status_of}
+use Rattle.fuse_text.proofs.Statuses.{status_of_check}
 use Rattle.fw_check.specs.Endings.{PrintsChecked}
 use Rattle.fw_check.specs.Running.{AllPrinted, StopsIn}
 use Rattle.fw_check.proofs.CheckLaws.{map_some}
-use Rattle.fw_check.proofs.ReportLaws.{ends_well, ends_with_faults, stop_status, stops}
+use Rattle.fw_check.proofs.ReportLaws.{ends_well, ends_with_faults, stops}
 use Rattle.fw_check.proofs.check.run_check.Goals as goal
 
 pub returns-then-has_no_finding : goal.returns-then-has_no_finding
@@ -46,11 +48,11 @@ returns g c =
     let faults = g.F.Write.contents c.args.faults.now in
     let said = g.F.Write.contents c.report.new.faults in
     let stop = c.in-Err.stop in
-    record {
-      statuses = stop_status stop name faults said c.report.result c.report.ensures;
+    rw c.report.ensures.status record {
+      statuses = status_of_check stop;
       prints = map_some (λ capture. StopsIn c.args.options capture stop had has)
-          (λ capture. PrintsChecked c.args.options name capture had has faults said c.report.result)
+          (λ capture. PrintsChecked c.args.options name capture had has faults said (status_of stop))
           (g.R.Read.remaining c.args.input.now)
-          (λ capture at. stops c.args.options stop name capture had has faults said c.report.result at c.report.ensures)
+          (λ capture at. stops c.args.options stop name capture had has faults said at c.report.ensures.said)
           (c.in-Err.ensures c.new-checker.ensures);
     }

@@ -1,7 +1,7 @@
 use Rattle.std.proofs.Common.{refl, arith}
 use Rattle.fw_script.specs.Scripts.{IsRunOf}
 use Rattle.fw_script.proofs.Ending.{at_0_or_5, ended_at_1, ended_at_3, ended_at_5, never_0, said_at_3}
-use Rattle.fw_script.proofs.Statuses.{status_is_one}
+use Rattle.fuse_text.proofs.Statuses.{status_among}
 use Rattle.fw_script.proofs.script.run_on.Goals as goal
 
 pub returns-in-Ok : goal.returns-in-Ok
@@ -27,15 +27,15 @@ returns-in-Err g c =
     let said = g.F.Write.contents c.report.new.faults in
     rw c.report.ensures.status
     (record {
-      statuses = status_is_one stop;
+      statuses = status_among stop;
       judged = at_0_or_5 stop c.in-Err.ensures.refused;
       silent = c.in-Err.ensures.silent;
       printed = λ at. absurd (never_0 stop at);
-      stopped = ended_at_3 (Unit {0}) (IsRunOf _ c.args.hex) name known stop old has c.in-Err.ensures.ends;
-      refused = ended_at_5 (Unit {0}) (IsRunOf _ c.args.hex) name known stop old has c.in-Err.ensures.ends;
+      stopped = ended_at_3 (Unit {0}) (IsRunOf _ c.args.hex) known stop old has c.in-Err.ensures.ends;
+      refused = ended_at_5 (Unit {0}) (IsRunOf _ c.args.hex) known stop old has c.in-Err.ensures.ends;
       fault =
           ended_at_1 (Unit {0}) (IsRunOf _ c.args.hex) name known stop old has (g.F.Write.contents c.args.faults.now)
           said c.in-Err.ensures.ends c.report.ensures.said;
-      no_memory = said_at_3 stop (g.F.Write.contents c.args.faults.now) said c.report.ensures.said;
+      no_memory = said_at_3 name stop (g.F.Write.contents c.args.faults.now) said c.report.ensures.said;
       no_fault = at_0_or_5 stop c.report.ensures.silent;
     })

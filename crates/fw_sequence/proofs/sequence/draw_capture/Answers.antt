@@ -5,7 +5,7 @@ use Rattle.fw_sequence.proofs.sequence.draw_capture.Goals as goal
 
 pub returns-in-Err : goal.returns-in-Err
 returns-in-Err g c =
-    let ended : Contains (1 ∷ 3 ∷ []) c.report.result = subst (Contains (1 ∷ 3 ∷ [])) (sym c.report.ensures) c.in-Err.ensures in
+    let ended : Contains (1 ∷ 3 ∷ []) c.report.result = subst (Contains (1 ∷ 3 ∷ [])) (sym c.report.ensures.status) c.in-Err.ensures in
     record {
       statuses = status_of_reading c.report.result ended;
       printed = λ at. absurd (not_0 c.report.result ended at);

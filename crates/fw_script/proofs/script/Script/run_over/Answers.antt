@@ -2,7 +2,7 @@ use Rattle.std.proofs.Common.{arith, refl}
 use Rattle.fw_script.specs.Scripts.{IsRunOver}
 use Rattle.fuse_text.specs.Lines.{lines_of}
 use Rattle.fw_script.proofs.Ending.{session_never_1}
-use Rattle.fw_script.proofs.Statuses.{status_of_running}
+use Rattle.fuse_text.proofs.Statuses.{status_of_running}
 use Rattle.fw_script.proofs.script.Script.run_over.Goals as goal
 
 pub returns-in-Ok-true-clause-statuses : goal.returns-in-Ok-true-clause-statuses

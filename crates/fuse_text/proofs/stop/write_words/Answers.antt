@@ -1,6 +1,6 @@
 use Rattle.std.proofs.Common.{codes, refl}
 use Rattle.fuse_text.proofs.Writes.{OnErr-always, refused_then, some_first}
-use Rattle.fw_orders.proofs.stop.write_words.Goals as goal
+use Rattle.fuse_text.proofs.stop.write_words.Goals as goal
 
 pub returns-in_err-write_text-clause-refused : goal.returns-in_err-write_text-clause-refused
 returns-in_err-write_text-clause-refused g c =

@@ -1,7 +1,7 @@
 use Rattle.std.proofs.Common.{append_assoc, codes}
 use Rattle.std.specs.Prelude.{decimal}
 use Rattle.fuse_text.proofs.Writes.{refused_1, refused_2, refused_3}
-use Rattle.fw_orders.proofs.stop.write_head.Goals as goal
+use Rattle.fuse_text.proofs.stop.write_head.Goals as goal
 
 pub returns-in_err-write_text-clause-refused : goal.returns-in_err-write_text-clause-refused
 returns-in_err-write_text-clause-refused g c =
