@@ -1,5 +1,5 @@
 -- Answers are collected one after another, the lowest first.
-use Rattle.std.proofs.Common.{◌≡◌, ℕ, ◌+◌, ◌≤◌, ◌<◌, Bool, true, not, nat_eq, cond, List, [], ◌∷◌, Option, Some, None, length, filter, slice_get, refl, ap, sym, arith, inl, inr}
+use Rattle.std.proofs.Common.{◌≡◌, ℕ, ◌+◌, ◌≤◌, ◌<◌, Bool, not, nat_eq, cond, [], ◌∷◌, Option, Some, None, length, slice_get, refl, ap, sym, arith, inl, inr}
 use Rattle.std.proofs.lemmas.Bool.Decides.{eqb_tells}
 use Rattle.std.proofs.lemmas.List.Sums.{count_by-le-length, length-filter}
 use Rattle.fuse_spec.specs.Calls.Answers.{Answer}

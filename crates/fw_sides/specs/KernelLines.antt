@@ -1,7 +1,7 @@
 -- The lines that a kernel by itself is given, by their words.
 use Rattle.std.specs.Prelude.{◌≡◌, ℕ, List, [], ◌∷◌, ◌++◌, codes, decimal}
-use Rattle.fw_script.specs.Arguments.{IsText, signal_word}
-use Rattle.fw_script.specs.CallLines.{HasTexts, spelled_call}
+use Rattle.fw_script.specs.Arguments.{signal_word}
+use Rattle.fw_script.specs.CallLines.{spelled_call}
 use Rattle.fuse_text.specs.HexTexts.{IsHexOrNone, hex_or_none}
 use Rattle.fw_script.specs.Lines.{spelled_pick}
 use Rattle.fuse_text.specs.Words.{words_of}

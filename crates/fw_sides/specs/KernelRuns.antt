@@ -1,5 +1,5 @@
--- What lines make of a kernel by itself, one after another.
-use Rattle.std.specs.Prelude.{◌≡◌, ℕ, List, [], ◌∷◌, ◌++◌}
+-- What a line makes of a kernel by itself.
+use Rattle.std.specs.Prelude.{ℕ, List, []}
 use Rattle.fuse_spec.specs.declared.Refusal.{Refusal}
 use Rattle.fuse_spec.specs.Kernel.Kernel.{Kernel}
 use Rattle.fk_kernel.specs.declared.step.KernelEvent.{KernelEvent}
@@ -23,9 +23,3 @@ pub data DoesKernelLine (A : Type 0) (old : Kernel) (text : List ℕ) : Kernel �
   event : (event : KernelEvent) → SaysEvent text event → (new : Kernel) → KernelHappens A old event new
       → DoesKernelLine A old text new
   nothing : DoesKernelLine A old text old
-
--- Lines are done, one after another.
-pub data DoesKernelLines (A : Type 0) (old : Kernel) : List (List ℕ) → Kernel → Type 0 where
-  none : DoesKernelLines A old [] old
-  more : (before : List (List ℕ)) (mid : Kernel) → DoesKernelLines A old before mid → (text : List ℕ) (new : Kernel)
-      → DoesKernelLine A mid text new → DoesKernelLines A old (before ++ text ∷ []) new

@@ -1,5 +1,5 @@
--- What lines make of a server by itself, one after another.
-use Rattle.std.specs.Prelude.{◌≡◌, ℕ, List, [], ◌∷◌, ◌++◌}
+-- What a line makes of a server by itself.
+use Rattle.std.specs.Prelude.{ℕ, List}
 use Rattle.fuse_spec.specs.Server.Server.{Server}
 use Rattle.fs_server.specs.declared.step.ServerEvent.{ServerEvent}
 use Rattle.fs_server.specs.declared.step.ServerRefused.{ServerRefused}
@@ -18,9 +18,3 @@ pub data DoesServerLine (A : Type 0) (old : Server) (text : List ℕ) : Server �
   event : (event : ServerEvent) → SaysServerEvent text event → (new : Server) → ServerHappens A old event new
       → DoesServerLine A old text new
   nothing : DoesServerLine A old text old
-
--- Lines are done, one after another.
-pub data DoesServerLines (A : Type 0) (old : Server) : List (List ℕ) → Server → Type 0 where
-  none : DoesServerLines A old [] old
-  more : (before : List (List ℕ)) (mid : Server) → DoesServerLines A old before mid → (text : List ℕ) (new : Server)
-      → DoesServerLine A mid text new → DoesServerLines A old (before ++ text ∷ []) new

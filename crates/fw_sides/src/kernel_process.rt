@@ -5,14 +5,16 @@ ghost use Rattle.fuse_text.specs.HexTexts.{IsHexOrNone};
 ghost use Rattle.fw_sides.specs.KernelLines.{SaysLine};
 ghost use Rattle.fuse_spec.specs.Kernel.Kernel.{Kernel as KernelState};
 ghost use Rattle.fuse_spec.specs.World.Worlds.{first_kernel};
-ghost use Rattle.fw_sides.specs.KernelRuns.{DoesKernelLine, DoesKernelLines, KernelHappens};
+ghost use Rattle.fw_sides.specs.KernelRuns.{DoesKernelLine, KernelHappens};
+ghost use Rattle.fw_sides.specs.Lines.{DoLines};
 
 use crate::form::Form;
-use crate::input::{End, next_line};
+use crate::input::End;
 use crate::kernel_line::{KernelLine, read_kernel_line};
 use crate::kernel_text::print_kernel_step;
 use crate::nodes_text::print_nodes;
 use crate::refusal_text::{print_line_fault, print_refusal};
+use crate::side::{Side, do_lines};
 use fk_kernel::{Call, KernelEvent, KernelOf};
 use fk_lookup_count::CountTable;
 use fk_queues::QueueTable;
@@ -96,105 +98,40 @@ fn show<Q: QueueTable<Purpose>, C: CountTable<Heap = Q::Heap>, W: Write>(
     }
 }
 
-/// Does what a line says, and prints what it came to. `bytes` is room for what stands in hex.
-fn run_line<Q: QueueTable<Purpose>, C: CountTable<Heap = Q::Heap>, W: Write>(
-    alloc: Q::Heap,
-    kernel: &mut KernelOf<Q, C>,
-    bytes: &mut Vec<u8, Q::Heap>,
-    line: &[u8],
-    form: Form,
-    out: &mut W,
-) -> Result<(), OutputRefused>
-    ensures { OnOk result (DoesKernelLine Q.Heap kernel.old line.now kernel.new) }
-{
-    match read_kernel_line(line) {
-        Ok(KernelLine::Event(event)) => run_event(kernel, &event, form, out),
-        Ok(KernelLine::Write { hex }) => write_reply(kernel, bytes, hex, form, out),
-        Ok(
-            KernelLine::CallWrite {
-                open_call,
-                offset,
-                hex,
-            },
-        ) => begin_write(kernel, bytes, (open_call, offset), hex, form, out),
-        Ok(KernelLine::Show) => show(alloc, kernel, form, out),
-        Err(fault) => print_line_fault(out, form, fault),
-    }
-}
+impl<Q: QueueTable<Purpose>, C: CountTable<Heap = Q::Heap>> Side for KernelOf<Q, C> {
+    type Heap = Q::Heap;
 
-/// Room that one line after another uses: the line, and the bytes that its hex spells.
-#[derive(Drop)]
-struct Room<A: Allocator> {
-    line: Vec<u8, A>,
-    bytes: Vec<u8, A>,
-}
+    type State = KernelOf<Q, C>;
 
-/// Does what a line says, if it says anything, and hands on what was printed.
-fn do_line<Q: QueueTable<Purpose>, C: CountTable<Heap = Q::Heap>, W: Write>(
-    alloc: Q::Heap,
-    kernel: &mut KernelOf<Q, C>,
-    room: &mut Room<Q::Heap>,
-    form: Form,
-    out: &mut W,
-) -> Result<(), OutputRefused>
-    ensures { OnOk result (DoesKernelLine Q.Heap kernel.old room.old.line.items kernel.new) }
-{
-    if is_passed_over(room.line.as_slice()) {
-        return Ok(());
-    }
-    run_line(
-        alloc,
-        kernel,
-        &mut room.bytes,
-        room.line.as_slice(),
-        form,
-        out,
-    )?;
-    out.flush().map_err(|_| OutputRefused)
-}
+    ghost state = { λ kernel. kernel };
 
-/// Reads the next line and does what it says. Says whether there was one.
-fn run_next<Q: QueueTable<Purpose>, C: CountTable<Heap = Q::Heap>, R: BufRead, W: Write>(
-    alloc: Q::Heap,
-    kernel: &mut KernelOf<Q, C>,
-    room: &mut Room<Q::Heap>,
-    form: Form,
-    input: &mut R,
-    out: &mut W,
-) -> Result<bool, End>
-    ensures { OnOk result ((text : List ℕ) × DoesKernelLine Q.Heap kernel.old text kernel.new) }
-{
-    if !next_line(input, &mut room.line)? {
-        return Ok(false);
-    }
-    match do_line(alloc, kernel, room, form, out) {
-        Ok(()) => Ok(true),
-        Err(_) => Err(End::OutputRefused),
-    }
-}
+    ghost does = { DoesKernelLine Q.Heap };
 
-/// Does what the next lines say, until the input ends.
-fn run_lines<
-    A: Allocator + Copy,
-    Q: QueueTable<Purpose, Heap = A>,
-    C: CountTable<Heap = A>,
-    R: BufRead,
-    W: Write,
->(alloc: A, kernel: &mut KernelOf<Q, C>, form: Form, input: &mut R, out: &mut W) -> Result<(), End>
-    ensures { OnOk result ((lines : List (List ℕ)) × DoesKernelLines A kernel.old lines kernel.new) }
-{
-    let mut room = Room {
-        line: Vec::new(alloc),
-        bytes: Vec::new(alloc),
-    };
-    for _line in 0..u64::MAX {
-        match run_next(alloc, kernel, &mut room, form, input, out) {
-            Ok(true) => {}
-            Ok(false) => return Ok(()),
-            Err(end) => return Err(end),
+    fn do_line<W: Write>(
+        &mut self,
+        alloc: Q::Heap,
+        bytes: &mut Vec<u8, Q::Heap>,
+        line: &[u8],
+        form: Form,
+        out: &mut W,
+    ) -> Result<(), OutputRefused> {
+        if is_passed_over(line) {
+            return Ok(());
+        }
+        match read_kernel_line(line) {
+            Ok(KernelLine::Event(event)) => run_event(self, &event, form, out),
+            Ok(KernelLine::Write { hex }) => write_reply(self, bytes, hex, form, out),
+            Ok(
+                KernelLine::CallWrite {
+                    open_call,
+                    offset,
+                    hex,
+                },
+            ) => begin_write(self, bytes, (open_call, offset), hex, form, out),
+            Ok(KernelLine::Show) => show(alloc, self, form, out),
+            Err(fault) => print_line_fault(out, form, fault),
         }
     }
-    Ok(())
 }
 
 /// Runs a new kernel over any tables.
@@ -204,10 +141,10 @@ fn run_new<T: Tables, R: BufRead, W: Write>(
     input: &mut R,
     out: &mut W,
 ) -> Result<(), End>
-    ensures { OnOk result ((lines : List (List ℕ)) × (last : KernelState) × DoesKernelLines T.Heap first_kernel lines last) }
+    ensures { OnOk result ((lines : List (List ℕ)) × (last : KernelState) × DoLines (DoesKernelLine T.Heap) first_kernel lines last) }
 {
     let mut kernel = KernelOf::<T::Queues, T::Counts>::new(alloc);
-    let ended = run_lines(alloc, &mut kernel, form, input, out);
+    let ended = do_lines(&mut kernel, alloc, form, input, out);
     kernel.end();
     ended
 }
@@ -224,7 +161,7 @@ pub fn run_kernel<A: Allocator + Copy, R: BufRead, W: Write>(
     input: &mut R,
     out: &mut W,
 ) -> Result<(), End>
-    ensures { OnOk result ((lines : List (List ℕ)) × (last : KernelState) × DoesKernelLines A first_kernel lines last) }
+    ensures { OnOk result ((lines : List (List ℕ)) × (last : KernelState) × DoLines (DoesKernelLine A) first_kernel lines last) }
 {
     run_new::<Maps<A>, R, W>(alloc, form, input, out)
 }

@@ -12,6 +12,7 @@ mod refusal_text;
 mod server_line;
 mod server_process;
 mod server_text;
+mod side;
 mod words;
 
 pub use form::Form;

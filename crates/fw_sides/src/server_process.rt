@@ -4,14 +4,16 @@ ghost use Rattle.std.specs.Prelude.{◌≡◌, ◌++◌, ℕ, List, OnOk, codes}
 ghost use Rattle.fuse_text.specs.HexTexts.{IsHexOrNone};
 ghost use Rattle.fuse_spec.specs.Server.Server.{Server as ServerState};
 ghost use Rattle.fuse_spec.specs.World.Worlds.{first_server};
-ghost use Rattle.fw_sides.specs.ServerRuns.{DoesServerLine, DoesServerLines, ServerHappens};
+ghost use Rattle.fw_sides.specs.Lines.{DoLines};
+ghost use Rattle.fw_sides.specs.ServerRuns.{DoesServerLine, ServerHappens};
 
 use crate::form::Form;
-use crate::input::{End, next_line};
+use crate::input::End;
 use crate::nodes_text::print_nodes;
 use crate::refusal_text::{print_line_fault, print_refusal};
 use crate::server_line::{ServerLine, read_server_line};
 use crate::server_text::{print_server_refused, print_server_step};
+use crate::side::{Side, do_lines};
 use fs_server::{NodeStore, ServerEvent, ServerOf};
 use fuse_spec::Refusal;
 use fuse_text::{OutputRefused, read_hex_or_none};
@@ -65,98 +67,33 @@ fn show<S: NodeStore, W: Write>(
     }
 }
 
-/// Does what a line says, and prints what it came to. `bytes` is room for what stands in hex.
-fn run_line<S: NodeStore, W: Write>(
-    alloc: S::Heap,
-    server: &mut ServerOf<S>,
-    bytes: &mut Vec<u8, S::Heap>,
-    line: &[u8],
-    form: Form,
-    out: &mut W,
-) -> Result<(), OutputRefused>
-    ensures { OnOk result (DoesServerLine S.Heap server.old line.now server.new) }
-{
-    match read_server_line(line) {
-        Ok(ServerLine::Event(event)) => run_event(server, &event, form, out),
-        Ok(ServerLine::Take { hex }) => take(server, bytes, hex, form, out),
-        Ok(ServerLine::Show) => show(alloc, server, form, out),
-        Err(fault) => print_line_fault(out, form, fault),
-    }
-}
+impl<S: NodeStore> Side for ServerOf<S> {
+    type Heap = S::Heap;
 
-/// Room that one line after another uses: the line, and the bytes that its hex spells.
-#[derive(Drop)]
-struct Room<A: Allocator> {
-    line: Vec<u8, A>,
-    bytes: Vec<u8, A>,
-}
+    type State = ServerOf<S>;
 
-/// Does what a line says, if it says anything, and hands on what was printed.
-fn do_line<S: NodeStore, W: Write>(
-    alloc: S::Heap,
-    server: &mut ServerOf<S>,
-    room: &mut Room<S::Heap>,
-    form: Form,
-    out: &mut W,
-) -> Result<(), OutputRefused>
-    ensures { OnOk result (DoesServerLine S.Heap server.old room.old.line.items server.new) }
-{
-    if is_passed_over(room.line.as_slice()) {
-        return Ok(());
-    }
-    run_line(
-        alloc,
-        server,
-        &mut room.bytes,
-        room.line.as_slice(),
-        form,
-        out,
-    )?;
-    out.flush().map_err(|_| OutputRefused)
-}
+    ghost state = { λ server. server };
 
-/// Reads the next line and does what it says. Says whether there was one.
-fn run_next<S: NodeStore, R: BufRead, W: Write>(
-    alloc: S::Heap,
-    server: &mut ServerOf<S>,
-    room: &mut Room<S::Heap>,
-    form: Form,
-    input: &mut R,
-    out: &mut W,
-) -> Result<bool, End>
-    ensures { OnOk result ((text : List ℕ) × DoesServerLine S.Heap server.old text server.new) }
-{
-    if !next_line(input, &mut room.line)? {
-        return Ok(false);
-    }
-    match do_line(alloc, server, room, form, out) {
-        Ok(()) => Ok(true),
-        Err(_) => Err(End::OutputRefused),
-    }
-}
+    ghost does = { DoesServerLine S.Heap };
 
-/// Does what the next lines say, until the input ends.
-fn run_lines<A: Allocator + Copy, S: NodeStore<Heap = A>, R: BufRead, W: Write>(
-    alloc: A,
-    server: &mut ServerOf<S>,
-    form: Form,
-    input: &mut R,
-    out: &mut W,
-) -> Result<(), End>
-    ensures { OnOk result ((lines : List (List ℕ)) × DoesServerLines A server.old lines server.new) }
-{
-    let mut room = Room {
-        line: Vec::new(alloc),
-        bytes: Vec::new(alloc),
-    };
-    for _line in 0..u64::MAX {
-        match run_next(alloc, server, &mut room, form, input, out) {
-            Ok(true) => {}
-            Ok(false) => return Ok(()),
-            Err(end) => return Err(end),
+    fn do_line<W: Write>(
+        &mut self,
+        alloc: S::Heap,
+        bytes: &mut Vec<u8, S::Heap>,
+        line: &[u8],
+        form: Form,
+        out: &mut W,
+    ) -> Result<(), OutputRefused> {
+        if is_passed_over(line) {
+            return Ok(());
+        }
+        match read_server_line(line) {
+            Ok(ServerLine::Event(event)) => run_event(self, &event, form, out),
+            Ok(ServerLine::Take { hex }) => take(self, bytes, hex, form, out),
+            Ok(ServerLine::Show) => show(alloc, self, form, out),
+            Err(fault) => print_line_fault(out, form, fault),
         }
     }
-    Ok(())
 }
 
 /// Runs a new server over any tables.
@@ -166,12 +103,12 @@ fn run_new<T: Tables, R: BufRead, W: Write>(
     input: &mut R,
     out: &mut W,
 ) -> Result<(), End>
-    ensures { OnOk result ((lines : List (List ℕ)) × (last : ServerState) × DoesServerLines T.Heap first_server lines last) }
+    ensures { OnOk result ((lines : List (List ℕ)) × (last : ServerState) × DoLines (DoesServerLine T.Heap) first_server lines last) }
 {
     let Ok(mut server) = ServerOf::<T::Nodes>::new(alloc) else {
         return Err(End::NoMemory);
     };
-    let ended = run_lines(alloc, &mut server, form, input, out);
+    let ended = do_lines(&mut server, alloc, form, input, out);
     server.end();
     ended
 }
@@ -189,7 +126,7 @@ pub fn run_server<A: Allocator + Copy, R: BufRead, W: Write>(
     input: &mut R,
     out: &mut W,
 ) -> Result<(), End>
-    ensures { OnOk result ((lines : List (List ℕ)) × (last : ServerState) × DoesServerLines A first_server lines last) }
+    ensures { OnOk result ((lines : List (List ℕ)) × (last : ServerState) × DoLines (DoesServerLine A) first_server lines last) }
 {
     run_new::<Maps<A>, R, W>(alloc, form, input, out)
 }

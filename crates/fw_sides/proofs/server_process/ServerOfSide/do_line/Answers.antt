@@ -3,7 +3,7 @@ use Rattle.std.proofs.lemmas.Result.{on_ok_weaker}
 use Rattle.fw_sides.specs.ServerLines.{SaysServerLine}
 use Rattle.fw_sides.specs.ServerRuns.{event, nothing}
 use Rattle.fw_sides.proofs.Outputs.{whatever}
-use Rattle.fw_sides.proofs.server_process.run_line.Goals as goal
+use Rattle.fw_sides.proofs.server_process.ServerOfSide.do_line.Goals as goal
 
 pub returns-in-Ok-Event : goal.returns-in-Ok-Event
 returns-in-Ok-Event g c = on_ok_weaker c.run_event.result
@@ -14,3 +14,6 @@ returns-in-Ok-Show g c = whatever c.show.result nothing
 
 pub returns-in-Err : goal.returns-in-Err
 returns-in-Err g c = whatever c.print_line_fault.result nothing
+
+pub returns-then-is_passed_over : goal.returns-then-is_passed_over
+returns-then-is_passed_over g c = nothing

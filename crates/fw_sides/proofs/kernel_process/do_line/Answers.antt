@@ -1,5 +1,0 @@
-use Rattle.fw_sides.specs.KernelRuns.{nothing}
-use Rattle.fw_sides.proofs.kernel_process.do_line.Goals as goal
-
-pub returns-then-is_passed_over : goal.returns-then-is_passed_over
-returns-then-is_passed_over g c = nothing
