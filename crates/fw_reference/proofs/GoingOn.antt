@@ -1,11 +1,20 @@
 -- A world that goes on, step by step.
-use Rattle.std.proofs.Common.{◌≡◌, ℕ, Result, Ok, Err, refl, sym, subst, ◌∙◌}
-use Rattle.std.specs.Prelude.{IfOk, IfSome, IfNone, OnErr, Option, Some, None}
+use Rattle.std.proofs.Common.{◌≡◌, ℕ, Result, Ok, Err, length, not, refl, sym, subst, ◌∙◌}
+use Rattle.std.specs.Prelude.{IfOk, IfSome, IfNone, OnErr, Option, Some, None, nat_le}
 use Rattle.fuse_spec.specs.declared.Refusal.{Refusal}
+use Rattle.fuse_spec.specs.Calls.Calls.{Call as CallMade}
+use Rattle.fuse_spec.specs.World.Events as event
 use Rattle.fuse_spec.specs.World.Events.{Event, Outcome}
-use Rattle.fuse_spec.specs.World.Steps.{Happens}
-use Rattle.fuse_spec.specs.World.Worlds.{World}
+use Rattle.fuse_spec.specs.Kernel.Refusals.{is_ready, unless}
+use Rattle.fuse_spec.specs.Values.Numbers.{max_calls}
+use Rattle.fuse_spec.specs.declared.Refusal.TheVariants as refusal
+use Rattle.fuse_spec.specs.World.Steps.{Happens, going}
+use Rattle.fuse_spec.specs.World.Worlds.{World, after_call}
+use Rattle.fuse_theorem.proofs.RefusalCases.Accepted.{going_ok, unless_ok}
 use Rattle.fw_world.specs.Runs.{call_collected}
+use Rattle.fw_world.specs.Values.{outcome_of}
+use Rattle.fw_world.specs.declared.event.Outcome.{Outcome as Done}
+use Rattle.fw_world.specs.declared.event.Outcome.TheVariants as done
 use Rattle.fw_reference.specs.Reference.{GoesOn, stays, happened, collected}
 
 -- one event, which happens or is refused
@@ -40,3 +49,31 @@ then_continues first one mid two last three before after = (
 
 pub continues : {N : Type 0} (w : World) (numbers : N) → Continues w numbers w numbers
 continues w numbers = (stays w, refl)
+
+-- A call that happens begins under the next number.
+pub begins : (w : World) (call : CallMade) (o : Outcome) (new : World) → Happens w (event.call call) o new
+    → o ≡ event.begun w.kernel.vfs.next_call
+begins w call o new (choice, may, is) =
+    let begun = event.begun w.kernel.vfs.next_call in
+    let ready = unless_ok (not (is_ready w.kernel.phase)) refusal.NotReady
+    (unless (nat_le max_calls (length w.kernel.vfs.calls)) refusal.Full (going begun (after_call w call))) o new is in
+    let room = unless_ok (nat_le max_calls (length w.kernel.vfs.calls)) refusal.Full (going begun (after_call w call)) o new
+    ready.rest in
+    sym (going_ok begun (after_call w call) o new room.rest).leads.outcome_is
+
+-- an outcome that says so is that of a call
+pub is_begun : (o : Done) (number : ℕ) → outcome_of o ≡ event.begun number → (call : ℕ) × (o ≡ done.Begun call)
+is_begun (done.Begun call) number is = (call, refl)
+is_begun done.Mounted number is = absurd (cc is)
+is_begun (done.Read unique opcode len) number is = absurd (cc is)
+is_begun (done.Taken unique word) number is = absurd (cc is)
+is_begun (done.Done unique errno len) number is = absurd (cc is)
+is_begun (done.Lost unique errno) number is = absurd (cc is)
+is_begun (done.SentAgain unique len) number is = absurd (cc is)
+is_begun (done.Written unique result) number is = absurd (cc is)
+is_begun (done.Settled unique result) number is = absurd (cc is)
+is_begun (done.Interrupted call effect) number is = absurd (cc is)
+is_begun (done.Now clock) number is = absurd (cc is)
+is_begun done.Dropped number is = absurd (cc is)
+is_begun (done.Evicted node count) number is = absurd (cc is)
+is_begun done.Aborted number is = absurd (cc is)

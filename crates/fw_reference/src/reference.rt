@@ -1,10 +1,11 @@
 //! Calls, each made and carried to its answer.
 
-ghost use Rattle.std.specs.Prelude.{◌≡◌, [], IfErr, IfOk, IfSome, OnErr, OnOk};
+ghost use Rattle.std.specs.Prelude.{◌≡◌, ◌≢◌, [], None, IfErr, IfOk, IfSome, OnErr, OnOk, option_map, slice_get};
 ghost use Rattle.fuse_spec.specs.Values.Maps.{put};
 ghost use Rattle.fuse_spec.specs.World.Worlds.{first_world};
 ghost use Rattle.fuse_spec.specs.declared.Refusal.TheVariants.{NoMemory};
-ghost use Rattle.fw_reference.specs.Reference.{GoesOn, call_here, number_here};
+ghost use Rattle.fk_syscalls.specs.Values.{answer_of, call_of};
+ghost use Rattle.fw_reference.specs.Reference.{GoesOn, IsMade, call_here, number_here, numbers_with};
 
 use fuse_tables::RisingTable;
 use fw_world::{Answer, Call, Event, Minor, Outcome, Pick, Refusal, Tables, Taken, WorldOf};
@@ -123,16 +124,18 @@ impl<T: Tables> Reference<T> {
     ///
     /// `NoMemory`, or another refusal as requests are served.
     pub fn carry(&mut self, call: &Call<'_>) -> Result<Option<u64>, Refusal>
-        ensures { GoesOn self.old.world.sides self.new.world.sides × (self.new.numbers ≡ self.old.numbers) }
+        ensures made { IfOk result (λ number. IsMade self.old.world.sides (call_of call.now) number self.new.world.sides) }
+        ensures goes_on { GoesOn self.old.world.sides self.new.world.sides × (self.new.numbers ≡ self.old.numbers) }
     {
-        match self.step(&Event::Call(*call)) {
-            Ok(Outcome::Begun { call }) => {
-                self.serve_all()?;
-                Ok(Some(call))
-            }
-            Err(Refusal::NoMemory) => Err(Refusal::NoMemory),
-            _ => Ok(None),
-        }
+        let outcome = match self.world.step(&Event::Call(*call)) {
+            Ok(outcome) => outcome,
+            Err(refusal) => return unless_memory(refusal),
+        };
+        let Outcome::Begun { call } = outcome else {
+            return Ok(None);
+        };
+        self.serve_all()?;
+        Ok(Some(call))
     }
 
     /// The number here of the call that opened a file. One that opened none has none.
@@ -203,6 +206,10 @@ impl<T: Tables> Reference<T> {
     ///
     /// As `carry` and `note_number`.
     pub fn make(&mut self, call: &Call<'_>, number: u64) -> Result<Option<u64>, Refusal>
+        ensures made { IfOk result (λ here. IsMade self.old.world.sides
+            (call_of (call_here self.old.numbers.entries call.now)) here self.new.world.sides) }
+        ensures numbers { IfOk result (λ here. self.new.numbers.entries
+            ≡ numbers_with self.old.numbers.entries call.now number here) }
         ensures goes_on { GoesOn self.old.world.sides self.new.world.sides }
     {
         let call_here = self.call_here(call);
@@ -217,11 +224,24 @@ impl<T: Tables> Reference<T> {
 
     /// Collects the answer of the call that was made, if it is answered.
     pub fn collect(&mut self) -> Option<Answer<T::Heap>>
-        ensures { GoesOn self.old.world.sides self.new.world.sides × (self.new.numbers ≡ self.old.numbers) }
+        ensures answer { option_map (λ answer. answer_of answer) result
+            ≡ option_map (λ answered. answered.1) (slice_get self.old.world.sides.kernel.vfs.answers 0) }
+        ensures goes_on { GoesOn self.old.world.sides self.new.world.sides × (self.new.numbers ≡ self.old.numbers) }
     {
         match self.world.collect() {
             Some((_call, answer)) => Some(answer),
             None => None,
         }
+    }
+}
+
+/// What comes of a call that is refused: nothing, unless memory ran out.
+fn unless_memory(refusal: Refusal) -> Result<Option<u64>, Refusal>
+    ensures out { IfErr result (λ why. why ≡ refusal) }
+    ensures none { IfOk result (λ number. (number ≡ None) × (refusal ≢ NoMemory)) }
+{
+    match refusal {
+        Refusal::NoMemory => Err(refusal),
+        _ => Ok(None),
     }
 }
