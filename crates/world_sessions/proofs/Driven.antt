@@ -16,9 +16,9 @@ use Rattle.fuse_theorem.specs.Numbering.{IsNumberedWhileLive}
 use Rattle.fuse_theorem.proofs.Requests.NumbersStay.{first_numbers, numbers_stay, replying_kernel}
 use Rattle.fk_kernel.specs.declared.read.Pick.TheVariants.{Forgets, Interrupt, Pending}
 use Rattle.fk_drive.specs.Driving.{Drives, alone, first_driven, nothing as undriven, next as drives_next}
-use Rattle.fk_drive.specs.KernelSteps.{ActsAlone}
+use Rattle.fk_drive.specs.KernelSteps.{ActsAlone, gives_answer}
 use Rattle.driven_sessions.proofs.Rules.{keeps_rules}
-use Rattle.world_sessions.specs.WorldTransfers.{AreTransfersAt, IsReplyOf, HasTransfers, nothing, next}
+use Rattle.world_sessions.specs.WorldTransfers.{AreTransfersAt, IsReplyOf, HasTransfers, answer_collected, collects, nothing, next}
 use Rattle.world_sessions.specs.KernelRules.{KernelIsDriven, KernelKeepsRules}
 use Rattle.world_sessions.proofs.Alone.{aborts_now, begins_now, drops_now, evicts_now, mounts_now, signals_now, ticks_now}
 use Rattle.world_sessions.proofs.Reading.{driven_by, forgets_are, goes_over, may_forget, may_interrupt, may_read}
@@ -112,16 +112,37 @@ module _ (w : World) (numbered : IsNumberedWhileLive w) (before : List Transfer)
       acts (evicted w.kernel node counted) (evicts_now w.kernel node counted live there unused) log none
   by_event choice e o after (by_abort live) log none = acts (kernel_aborted w.kernel) (aborts_now w.kernel live) log none
 
+-- An answer that is collected changes no number.
+still_numbered : (w : World) (call : ℕ) → IsNumberedWhileLive w → IsNumberedWhileLive (answer_collected w call)
+still_numbered w call is = record {
+  live =
+      λ live. let numbered = is.live live in record {
+        queues = numbered.queues;
+        calls_below = numbered.calls_below;
+        one_request = numbered.one_request;
+        sent_below = numbered.sent_below;
+        replies_below = numbered.replies_below;
+        held_below = numbered.held_below;
+        kept_below = numbered.kept_below;
+      };
+  idle = is.idle;
+}
+
 run_numbered : (log : List Transfer) (w : World) → HasTransfers log w → IsNumberedWhileLive w
 run_numbered log w nothing = first_numbers
 run_numbered log w (next before mid runs e o after happens last over) =
     numbers_stay happens.0 mid (run_numbered before mid runs) e o after happens.2
+run_numbered log w (collects before mid runs call) = still_numbered mid call (run_numbered before mid runs)
 
 run_driven : (log : List Transfer) (w : World) → HasTransfers log w → Drives (first_driven false) log (driven_by w.kernel)
 run_driven log w nothing = undriven
 run_driven log w (next before mid runs e o after happens last over) =
     by_event mid (run_numbered before mid runs) before (run_driven before mid runs) happens.0 e o after
     (happened happens.0 mid o after e happens.2) last over
+run_driven log w (collects before mid runs call) =
+    subst (λ (l : List Transfer). Drives (first_driven false) l (driven_by (answer_collected mid call).kernel)) (append-nil before)
+    (drives_next before (driven_by mid.kernel) (run_driven before mid runs) [] (driven_by (answer_collected mid call).kernel)
+    (alone (answer_collected mid call).kernel (gives_answer call)))
 
 pub kernel_driven : KernelIsDriven
 kernel_driven log w runs = (driven_by w.kernel, refl, run_driven log w runs)

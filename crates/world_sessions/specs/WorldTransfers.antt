@@ -4,6 +4,7 @@ use Rattle.fuse_device.specs.Transfers.{Transfer, received, sent}
 use Rattle.fuse_spec.specs.declared.WriteResult.{WriteResult}
 use Rattle.fuse_spec.specs.Kernel.Kernel.{Kernel}
 use Rattle.fuse_spec.specs.Kernel.Messages.{Request, WireReply}
+use Rattle.fuse_spec.specs.Values.Maps.{remove}
 use Rattle.fuse_spec.specs.World.Events.{Event, Outcome}
 use Rattle.fuse_spec.specs.World.Events as event
 use Rattle.fuse_spec.specs.World.Steps.{Happens}
@@ -39,8 +40,15 @@ AreTransfersAt w (event.read_pending place) after log = IsRequestTransfer w afte
 AreTransfersAt w (event.write place) after log = IsReplyTransfer w place log
 AreTransfersAt w e after log = log ≡ []
 
--- A run of the world from its beginning, and what went over the device in it.
+-- The world once the answer of one call is collected.
+abbrev pub answer_collected : World → ℕ → World
+answer_collected w call = record w {
+  kernel = record w.kernel { vfs = record w.kernel.vfs { answers = remove w.kernel.vfs.answers call } };
+}
+
+-- A run of the world from its beginning, in which answers are collected between events, and what went over the device in it.
 pub data HasTransfers : List Transfer → World → Type 0 where
   nothing : HasTransfers [] first_world
   next : (before : List Transfer) (mid : World) → HasTransfers before mid → (e : Event) (o : Outcome) (after : World)
       → Happens mid e o after → (log : List Transfer) → AreTransfersAt mid e after log → HasTransfers (before ++ log) after
+  collects : (log : List Transfer) (w : World) → HasTransfers log w → (call : ℕ) → HasTransfers log (answer_collected w call)
