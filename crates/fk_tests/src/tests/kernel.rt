@@ -55,7 +55,8 @@ enum Reads {
     Refused(Refusal),
 }
 
-/// Bytes that are written. Frames are in hexadecimal digits; spaces are for reading alone.
+/// Bytes that are written. Frames are in hexadecimal digits, and a dot is four bytes of zeros; spaces are for reading
+/// alone.
 #[derive(Clone, Copy)]
 enum Written {
     Whole(&'static str),
@@ -106,14 +107,12 @@ static START: [Row; 4] = [
     Row::Mount(Ok(())),
     Row::Read(
         0,
-        Reads::Frame(
-            "38000000 1a000000 0200000000000000 0000000000000000 00000000 00000000 00000000 00000000 07000000 1f000000 00000000 01200400",
-        ),
+        Reads::Frame("38000000 1a000000 02000000. ...... 07000000 1f000000 . 01200400"),
     ),
     Row::Begin(Call::Stat { path: b"/" }, Err(Refusal::NotReady)),
     Row::Write(
         Written::Whole(
-            "50000000 00000000 0200000000000000 07000000 1f000000 00000000 01200400 0000 0000 00100000 01000000 0000 0000 00000000 00000000 00000000 00000000 00000000 00000000 00000000 00000000",
+            "50000000 . 02000000. 07000000 1f000000 . 01200400 0000 0000 00100000 01000000 0000 0000 ........",
         ),
         WriteResult::Accepted,
     ),
@@ -176,30 +175,13 @@ fn begins<Q: RequestQueues, C: LookupCounts<Heap = Q::Heap>>(
     gives(kernel.begin(&call), wanted)
 }
 
-fn reads_pending<Q: RequestQueues, C: LookupCounts<Heap = Q::Heap>>(
+fn reads_as<Q: RequestQueues, C: LookupCounts<Heap = Q::Heap>>(
     kernel: &mut KernelOf<Q, C>,
     alloc: Global,
-    place: u64,
+    pick: Pick,
     wanted: Reads,
 ) -> Outcome {
-    read_as(alloc, kernel.read(Pick::Pending(place)), wanted)
-}
-
-fn reads_interrupt<Q: RequestQueues, C: LookupCounts<Heap = Q::Heap>>(
-    kernel: &mut KernelOf<Q, C>,
-    alloc: Global,
-    wanted: Reads,
-) -> Outcome {
-    read_as(alloc, kernel.read(Pick::Interrupt), wanted)
-}
-
-fn reads_forgets<Q: RequestQueues, C: LookupCounts<Heap = Q::Heap>>(
-    kernel: &mut KernelOf<Q, C>,
-    alloc: Global,
-    count: u64,
-    wanted: Reads,
-) -> Outcome {
-    read_as(alloc, kernel.read(Pick::Forgets(count)), wanted)
+    read_as(alloc, kernel.read(pick), wanted)
 }
 
 /// A head, and a record this many times.
@@ -344,28 +326,49 @@ fn is_first_cached<Q: RequestQueues, C: LookupCounts<Heap = Q::Heap>>(
     }
 }
 
+/// Whether a look gives what it must.
+fn sees<Q: RequestQueues, C: LookupCounts<Heap = Q::Heap>>(
+    kernel: &KernelOf<Q, C>,
+    row: Row,
+) -> bool {
+    match row {
+        Row::Unanswered(calls) => are_unanswered(kernel, calls),
+        Row::Cached(directory, name, wanted) => {
+            kernel.cached_name(directory, name.as_bytes()) == wanted
+        }
+        Row::FirstCached(wanted) => is_first_cached(kernel, wanted),
+        Row::Serves(call, wanted) => kernel.request_for(call) == wanted,
+        _ => false,
+    }
+}
+
+/// What a step that gives a number, nothing or an answer comes to.
+fn steps<Q: RequestQueues, C: LookupCounts<Heap = Q::Heap>>(
+    kernel: &mut KernelOf<Q, C>,
+    row: Row,
+) -> Outcome {
+    match row {
+        Row::Mount(wanted) => mounts(kernel, wanted),
+        Row::Abort(wanted) => aborts_as(kernel, wanted),
+        Row::Begin(call, wanted) => begins(kernel, call, wanted),
+        Row::Tick(milliseconds, wanted) => ticks(kernel, milliseconds, wanted),
+        Row::DropName(directory, name, wanted) => drops(kernel, directory, name, wanted),
+        Row::Evict(node, wanted) => evicts(kernel, node, wanted),
+        Row::Signal(call, fatal, wanted) => interrupts(kernel, call, fatal, wanted),
+        Row::Answered(number, expected) => judged(answers(kernel, number, expected)),
+        _ => judged(sees(kernel, row)),
+    }
+}
+
 impl<Q: RequestQueues, C: LookupCounts<Heap = Q::Heap>> Tried<Row, Q::Heap> for KernelOf<Q, C> {
     fn attempt(&mut self, heap: Q::Heap, alloc: Global, row: Row) -> Outcome {
         match row {
-            Row::Mount(wanted) => mounts(self, wanted),
-            Row::Abort(wanted) => aborts_as(self, wanted),
-            Row::Begin(call, wanted) => begins(self, call, wanted),
-            Row::Read(place, wanted) => reads_pending(self, alloc, place, wanted),
-            Row::Interrupt(wanted) => reads_interrupt(self, alloc, wanted),
-            Row::Forget(count, wanted) => reads_forgets(self, alloc, count, wanted),
+            Row::Read(place, wanted) => reads_as(self, alloc, Pick::Pending(place), wanted),
+            Row::Interrupt(wanted) => reads_as(self, alloc, Pick::Interrupt, wanted),
+            Row::Forget(count, wanted) => reads_as(self, alloc, Pick::Forgets(count), wanted),
             Row::Write(written, wanted) => writes_row(self, alloc, written, wanted),
-            Row::Tick(milliseconds, wanted) => ticks(self, milliseconds, wanted),
-            Row::DropName(directory, name, wanted) => drops(self, directory, name, wanted),
-            Row::Evict(node, wanted) => evicts(self, node, wanted),
-            Row::Signal(call, fatal, wanted) => interrupts(self, call, fatal, wanted),
-            Row::Answered(number, expected) => judged(answers(self, number, expected)),
-            Row::Unanswered(calls) => judged(are_unanswered(self, calls)),
             Row::Nodes(nodes) => lists(self, heap, nodes),
-            Row::Cached(directory, name, wanted) => {
-                judged(self.cached_name(directory, name.as_bytes()) == wanted)
-            }
-            Row::FirstCached(wanted) => judged(is_first_cached(self, wanted)),
-            Row::Serves(call, wanted) => judged(self.request_for(call) == wanted),
+            _ => steps(self, row),
         }
     }
 }
@@ -397,10 +400,27 @@ fn run_on<A: Allocator + Copy>(
     run_over::<Queues<Purpose, A>, KernelNodes<A>>(rt, heap, refusing, alloc, lists, name);
 }
 
-/// Tries the rows of two lists on a new kernel, and refuses no growth.
-fn run_on_new(rt: &impl Abort, alloc: Global, first: &[Row], rows: &[Row], name: &str) {
+/// Tries the rows of some lists on a new kernel, and refuses no growth.
+fn run_lists(rt: &impl Abort, alloc: Global, lists: &[&[Row]], name: &str) {
     let refusing = FailAt::new(alloc);
-    run_on(rt, alloc, &refusing, alloc, &[first, rows], name);
+    run_on(rt, alloc, &refusing, alloc, lists, name);
+}
+
+/// The same of three lists.
+fn run_three<'a>(
+    rt: &impl Abort,
+    alloc: Global,
+    first: &'a [Row],
+    second: &'a [Row],
+    third: &'a [Row],
+    name: &str,
+) {
+    run_lists(rt, alloc, &[first, second, third], name);
+}
+
+/// The same of two lists.
+fn run_on_new(rt: &impl Abort, alloc: Global, first: &[Row], rows: &[Row], name: &str) {
+    run_lists(rt, alloc, &[first, rows], name);
 }
 
 /// The same of the rows of one list on a kernel whose INIT is answered.

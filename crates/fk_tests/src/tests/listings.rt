@@ -1,6 +1,6 @@
 //! Listings: each call once, and refused growths.
 
-use crate::tests::assert_right;
+use crate::tests::{assert_between, assert_right};
 use fail_at::{FailAt, Outcome, Tried, first_wrong, judged};
 use fk_kernel::{ListedName, Listing};
 use fuse_spec::Kind;
@@ -115,6 +115,6 @@ fn calls_with_each_growth_refused(rt: HostRuntime) -> Result<(), Fail> {
         run_calls(&rt, &heap, &heap, rt.alloc());
         runs = n;
     }
-    assert!(rt; 4 < runs && runs < 100, "{runs}");
+    assert_between(&rt, runs, 4, 100);
     Ok(())
 }

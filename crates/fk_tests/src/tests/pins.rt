@@ -57,23 +57,30 @@ fn end_oldest<Q: QueueTable<Purpose>>(queues: &mut Q) -> Option<u64> {
     Some(unique)
 }
 
-/// Checks what new queues say of two RELEASEs of node 5 and of call 7, up to the end of the last of them.
-fn check_releases<Q: QueueTable<Purpose>>(rt: &impl Abort, queues: &mut KernelQueues<Q>) {
-    assert!(rt; queue_three(queues) == Ok([2, 4, 6]));
-    assert!(rt; queues.is_releasing(5) && !queues.is_releasing(7));
-    assert!(rt; queues.request_for(7) == Some(4) && queues.request_for(5).is_none());
-    assert!(rt; end_oldest(queues) == Some(2));
-    assert!(rt; queues.is_releasing(5));
-    assert!(rt; queues.interrupt(4, true) == IntrEffect::Dequeued);
-    assert!(rt; queues.request_for(7).is_none());
-    assert!(rt; end_oldest(queues) == Some(6));
-    assert!(rt; !queues.is_releasing(5));
+/// Whether new queues say so of two RELEASEs of node 5 and of call 7, while none of them is ended.
+fn pins_both<Q: QueueTable<Purpose>>(queues: &mut KernelQueues<Q>) -> bool {
+    queue_three(queues) == Ok([2, 4, 6])
+        && queues.is_releasing(5)
+        && !queues.is_releasing(7)
+        && queues.request_for(7) == Some(4)
+        && queues.request_for(5).is_none()
+}
+
+/// Whether they say so up to the end of the last of them.
+fn pins_until_the_last<Q: QueueTable<Purpose>>(queues: &mut KernelQueues<Q>) -> bool {
+    end_oldest(queues) == Some(2)
+        && queues.is_releasing(5)
+        && queues.interrupt(4, true) == IntrEffect::Dequeued
+        && queues.request_for(7).is_none()
+        && end_oldest(queues) == Some(6)
+        && !queues.is_releasing(5)
 }
 
 /// The same over any table of requests.
 fn check_over<Q: QueueTable<Purpose> + Drop>(rt: &impl Abort, heap: Q::Heap) {
     let mut queues: KernelQueues<Q> = KernelQueues::new(heap);
-    check_releases(rt, &mut queues);
+    assert!(rt; pins_both(&mut queues), "both");
+    assert!(rt; pins_until_the_last(&mut queues), "until the last");
 }
 
 #[test]

@@ -1,10 +1,10 @@
 //! Signals to calls, and replies to INTERRUPTs (fuse.rst).
 
-use super::{Expected, Reads, Row, START, Written, run_on_new};
+use super::{Expected, Reads, Row, START, Written, run_lists, run_on_new};
 use fk_kernel::Call;
 use fk_wire::Opcode;
 use fuse_spec::{IntrEffect, Refusal, WriteResult};
-use std::alloc::{AllocError, Global};
+use std::alloc::Global;
 use std::process::Abort;
 use std::test::Fail;
 
@@ -28,14 +28,12 @@ static READ: [Row; 1] = [Row::Read(0, Reads::Head(4, Opcode::Mkdir))];
 static INTERRUPTED: [Row; 3] = [
     Row::Read(0, Reads::Head(4, Opcode::Mkdir)),
     Row::Signal(1, true, Ok(IntrEffect::Queued)),
-    Row::Interrupt(Reads::Frame(
-        "30000000 24000000 0500000000000000 0000000000000000 00000000 00000000 00000000 00000000 0400000000000000",
-    )),
+    Row::Interrupt(Reads::Frame("30000000 24000000 05000000. ...... 04000000.")),
 ];
 
 /// No server knows INTERRUPTs: ENOSYS comes under the odd number of the second, which was never signalled.
 static SWITCHED_OFF: [Row; 1] = [Row::Write(
-    Written::Whole("10000000 daffffff 0700000000000000"),
+    Written::Whole("10000000 daffffff 07000000."),
     WriteResult::Accepted,
 )];
 
@@ -54,9 +52,7 @@ static DEQUEUED: [Row; 4] = [
 static READ_WITH: [Row; 5] = [
     Row::Read(0, Reads::Head(4, Opcode::Mkdir)),
     Row::Read(0, Reads::Refused(Refusal::InterruptFirst)),
-    Row::Interrupt(Reads::Frame(
-        "30000000 24000000 0500000000000000 0000000000000000 00000000 00000000 00000000 00000000 0400000000000000",
-    )),
+    Row::Interrupt(Reads::Frame("30000000 24000000 05000000. ...... 04000000.")),
     Row::Interrupt(Reads::Refused(Refusal::NoSuch)),
     Row::Read(0, Reads::Refused(Refusal::NoSuch)),
 ];
@@ -72,9 +68,7 @@ static READ_WITHOUT: [Row; 3] = [
 static INTERRUPT_ALONE: [Row; 6] = [
     Row::Read(0, Reads::Refused(Refusal::InterruptFirst)),
     Row::Forget(1, Reads::Refused(Refusal::InterruptFirst)),
-    Row::Interrupt(Reads::Frame(
-        "30000000 24000000 0500000000000000 0000000000000000 00000000 00000000 00000000 00000000 0400000000000000",
-    )),
+    Row::Interrupt(Reads::Frame("30000000 24000000 05000000. ...... 04000000.")),
     Row::Interrupt(Reads::Refused(Refusal::NoSuch)),
     Row::Read(0, Reads::Refused(Refusal::NoSuch)),
     Row::Unanswered(2),
@@ -246,9 +240,7 @@ static NEVER: [Row; 1] = [Row::Read(0, Reads::Head(4, Opcode::Mkdir))];
 static READ_BEFORE: [Row; 3] = [
     Row::Read(0, Reads::Head(4, Opcode::Mkdir)),
     Row::Signal(1, false, Ok(IntrEffect::Queued)),
-    Row::Interrupt(Reads::Frame(
-        "30000000 24000000 0500000000000000 0000000000000000 00000000 00000000 00000000 00000000 0400000000000000",
-    )),
+    Row::Interrupt(Reads::Frame("30000000 24000000 05000000. ...... 04000000.")),
 ];
 
 /// Its INTERRUPT is queued.
@@ -262,7 +254,7 @@ static ENDED: [Row; 4] = [
     Row::Read(0, Reads::Head(4, Opcode::Mkdir)),
     Row::Signal(1, false, Ok(IntrEffect::Queued)),
     Row::Write(
-        Written::Whole("10000000 ffffffff 0400000000000000"),
+        Written::Whole("10000000 ffffffff 04000000."),
         WriteResult::Accepted,
     ),
     Row::Answered(1, Expected::Errno(1)),
@@ -273,79 +265,69 @@ static SECOND: [Row; 1] = [Row::Signal(2, true, Ok(IntrEffect::Queued))];
 
 /// The reply to the INTERRUPT of the first: EAGAIN.
 static EAGAIN: [Row; 1] = [Row::Write(
-    Written::Whole("10000000 f5ffffff 0500000000000000"),
+    Written::Whole("10000000 f5ffffff 05000000."),
     WriteResult::Accepted,
 )];
 
 /// The same once the first is answered.
 static EAGAIN_LATE: [Row; 1] = [Row::Write(
-    Written::Whole("10000000 f5ffffff 0500000000000000"),
+    Written::Whole("10000000 f5ffffff 05000000."),
     WriteResult::NoEntry,
 )];
 
 /// The reply to the INTERRUPT of the first: ENOSYS.
 static ENOSYS: [Row; 1] = [Row::Write(
-    Written::Whole("10000000 daffffff 0500000000000000"),
+    Written::Whole("10000000 daffffff 05000000."),
     WriteResult::Accepted,
 )];
 
 /// The same once the first is answered.
 static ENOSYS_LATE: [Row; 1] = [Row::Write(
-    Written::Whole("10000000 daffffff 0500000000000000"),
+    Written::Whole("10000000 daffffff 05000000."),
     WriteResult::NoEntry,
 )];
 
 /// The reply to the INTERRUPT of the first: EIO.
 static OTHER: [Row; 1] = [Row::Write(
-    Written::Whole("10000000 fbffffff 0500000000000000"),
+    Written::Whole("10000000 fbffffff 05000000."),
     WriteResult::Accepted,
 )];
 
 /// The same once the first is answered.
 static OTHER_LATE: [Row; 1] = [Row::Write(
-    Written::Whole("10000000 fbffffff 0500000000000000"),
+    Written::Whole("10000000 fbffffff 05000000."),
     WriteResult::NoEntry,
 )];
 
 /// The reply to the INTERRUPT of the first: no error.
 static NO_ERROR: [Row; 1] = [Row::Write(
-    Written::Whole("10000000 00000000 0500000000000000"),
+    Written::Whole("10000000 . 05000000."),
     WriteResult::Accepted,
 )];
 
 /// The same once the first is answered.
 static NO_ERROR_LATE: [Row; 1] = [Row::Write(
-    Written::Whole("10000000 00000000 0500000000000000"),
+    Written::Whole("10000000 . 05000000."),
     WriteResult::NoEntry,
 )];
 
 /// The INTERRUPT of the second alone is there.
 static SECOND_ALONE: [Row; 2] = [
-    Row::Interrupt(Reads::Frame(
-        "30000000 24000000 0700000000000000 0000000000000000 00000000 00000000 00000000 00000000 0600000000000000",
-    )),
+    Row::Interrupt(Reads::Frame("30000000 24000000 07000000. ...... 06000000.")),
     Row::Interrupt(Reads::Refused(Refusal::NoSuch)),
 ];
 
 /// That of the second, and then that of the first.
 static SECOND_FIRST: [Row; 3] = [
-    Row::Interrupt(Reads::Frame(
-        "30000000 24000000 0700000000000000 0000000000000000 00000000 00000000 00000000 00000000 0600000000000000",
-    )),
-    Row::Interrupt(Reads::Frame(
-        "30000000 24000000 0500000000000000 0000000000000000 00000000 00000000 00000000 00000000 0400000000000000",
-    )),
+    Row::Interrupt(Reads::Frame("30000000 24000000 07000000. ...... 06000000.")),
+    Row::Interrupt(Reads::Frame("30000000 24000000 05000000. ...... 04000000.")),
     Row::Interrupt(Reads::Refused(Refusal::NoSuch)),
 ];
 
 /// That of the first, and then that of the second.
 static BOTH: [Row; 3] = [
-    Row::Interrupt(Reads::Frame(
-        "30000000 24000000 0500000000000000 0000000000000000 00000000 00000000 00000000 00000000 0400000000000000",
-    )),
-    Row::Interrupt(Reads::Frame(
-        "30000000 24000000 0700000000000000 0000000000000000 00000000 00000000 00000000 00000000 0600000000000000",
-    )),
+    Row::Interrupt(Reads::Frame("30000000 24000000 05000000. ...... 04000000.")),
+    Row::Interrupt(Reads::Frame("30000000 24000000 07000000. ...... 06000000.")),
     Row::Interrupt(Reads::Refused(Refusal::NoSuch)),
 ];
 
@@ -465,7 +447,7 @@ static MARKS: [Row; 40] = [
     Row::Read(0, Reads::Head(2, Opcode::Init)),
     Row::Write(
         Written::Whole(
-            "50000000 00000000 0200000000000000 07000000 1f000000 00000000 01000400 0000 0000 00100000 01000000 0000 0000 00000000 00000000 00000000 00000000 00000000 00000000 00000000 00000000",
+            "50000000 . 02000000. 07000000 1f000000 . 01000400 0000 0000 00100000 01000000 0000 0000 ........",
         ),
         WriteResult::Accepted,
     ),
@@ -474,39 +456,35 @@ static MARKS: [Row; 40] = [
     Row::Read(1, Reads::Head(6, Opcode::Getattr)),
     Row::Read(0, Reads::Head(4, Opcode::Mkdir)),
     Row::Signal(1, false, Ok(IntrEffect::Queued)),
-    Row::Interrupt(Reads::Frame(
-        "30000000 24000000 0500000000000000 0000000000000000 00000000 00000000 00000000 00000000 0400000000000000",
-    )),
+    Row::Interrupt(Reads::Frame("30000000 24000000 05000000. ...... 04000000.")),
     // a body, another length, and the INTERRUPT of a request that is not there
     Row::Write(
-        Written::Whole("11000000 00000000 0500000000000000 00"),
+        Written::Whole("11000000 . 05000000. 00"),
         WriteResult::Invalid,
     ),
     Row::Write(
-        Written::Whole("18000000 f5ffffff 0500000000000000 0000000000000000"),
+        Written::Whole("18000000 f5ffffff 05000000. .."),
         WriteResult::Invalid,
     ),
     Row::Write(
-        Written::Whole("10000000 f5ffffff 0900000000000000"),
+        Written::Whole("10000000 f5ffffff 09000000."),
         WriteResult::NoEntry,
     ),
     Row::Interrupt(Reads::Refused(Refusal::NoSuch)),
     // EAGAIN twice queues it once
     Row::Write(
-        Written::Whole("10000000 f5ffffff 0500000000000000"),
+        Written::Whole("10000000 f5ffffff 05000000."),
         WriteResult::Accepted,
     ),
     Row::Write(
-        Written::Whole("10000000 f5ffffff 0500000000000000"),
+        Written::Whole("10000000 f5ffffff 05000000."),
         WriteResult::Accepted,
     ),
-    Row::Interrupt(Reads::Frame(
-        "30000000 24000000 0500000000000000 0000000000000000 00000000 00000000 00000000 00000000 0400000000000000",
-    )),
+    Row::Interrupt(Reads::Frame("30000000 24000000 05000000. ...... 04000000.")),
     Row::Interrupt(Reads::Refused(Refusal::NoSuch)),
     // the next request of a call is not marked, and no signal finds a call that is answered or not there
     Row::Write(
-        Written::Whole("10000000 fcffffff 0400000000000000"),
+        Written::Whole("10000000 fcffffff 04000000."),
         WriteResult::Accepted,
     ),
     Row::Answered(1, Expected::Errno(4)),
@@ -516,41 +494,33 @@ static MARKS: [Row; 40] = [
     Row::Read(0, Reads::Head(8, Opcode::Lookup)),
     Row::Signal(3, false, Ok(IntrEffect::Queued)),
     Row::Signal(3, true, Ok(IntrEffect::None)),
-    Row::Interrupt(Reads::Frame(
-        "30000000 24000000 0900000000000000 0000000000000000 00000000 00000000 00000000 00000000 0800000000000000",
-    )),
+    Row::Interrupt(Reads::Frame("30000000 24000000 09000000. ...... 08000000.")),
     Row::Write(
         Written::Whole(
-            "90000000 00000000 0800000000000000 0200000000000000 0100000000000000 0100000000000000 0000000000000000 00000000 00000000 0200000000000000 0000000000000000 0000000000000000 0000000000000000 0000000000000000 0000000000000000 00000000 00000000 00000000 ed410000 01000000 00000000 00000000 00000000 00100000 00000000",
+            "90000000 . 08000000. 02000000. 01000000. 01000000. .... 02000000. ............. ed410000 01000000 ... 00100000 .",
         ),
         WriteResult::Accepted,
     ),
     Row::Signal(3, false, Ok(IntrEffect::Flagged)),
     Row::Read(0, Reads::Head(10, Opcode::Lookup)),
-    Row::Interrupt(Reads::Frame(
-        "30000000 24000000 0b00000000000000 0000000000000000 00000000 00000000 00000000 00000000 0a00000000000000",
-    )),
+    Row::Interrupt(Reads::Frame("30000000 24000000 0b000000. ...... 0a000000.")),
     Row::Write(
-        Written::Whole("10000000 f5ffffff 0900000000000000"),
+        Written::Whole("10000000 f5ffffff 09000000."),
         WriteResult::NoEntry,
     ),
     Row::Write(
-        Written::Whole("10000000 f5ffffff 0b00000000000000"),
+        Written::Whole("10000000 f5ffffff 0b000000."),
         WriteResult::Accepted,
     ),
-    Row::Interrupt(Reads::Frame(
-        "30000000 24000000 0b00000000000000 0000000000000000 00000000 00000000 00000000 00000000 0a00000000000000",
-    )),
+    Row::Interrupt(Reads::Frame("30000000 24000000 0b000000. ...... 0a000000.")),
     Row::Write(
-        Written::Whole(
-            "90000000 00000000 0a00000000000000 0000000000000000 0000000000000000 0000000000000000 0000000000000000 00000000 00000000 0000000000000000 0000000000000000 0000000000000000 0000000000000000 0000000000000000 0000000000000000 00000000 00000000 00000000 00000000 00000000 00000000 00000000 00000000 00000000 00000000",
-        ),
+        Written::Whole("90000000 . 0a000000. ................................"),
         WriteResult::Accepted,
     ),
     Row::Answered(3, Expected::Errno(2)),
     // after ENOSYS a fatal signal still takes an unread request away
     Row::Write(
-        Written::Whole("10000000 daffffff 0700000000000000"),
+        Written::Whole("10000000 daffffff 07000000."),
         WriteResult::Accepted,
     ),
     Row::Begin(Call::Stat { path: b"/" }, Ok(4)),
@@ -650,24 +620,36 @@ fn rows_of(part: Part) -> &'static [Row] {
 }
 
 /// Tries the parts of a cell on a new kernel.
-fn check_cell(rt: &impl Abort, alloc: Global, cell: &Cell) -> Result<(), AllocError> {
+fn check_cell(rt: &impl Abort, alloc: Global, cell: &Cell) {
     let (name, parts) = cell;
-    let mut rows = TWO_CALLS.to_vec(alloc)?;
-    for part in parts {
-        rows.extend_from_slice(rows_of(*part))?;
+    let [came, known, signal, then] = *parts;
+    let lists: [&[Row]; 6] = [
+        &START,
+        &TWO_CALLS,
+        rows_of(came),
+        rows_of(known),
+        rows_of(signal),
+        rows_of(then),
+    ];
+    run_lists(rt, alloc, &lists, name);
+}
+
+/// Tries these cells.
+fn check_cells(rt: &impl Abort, alloc: Global, cells: &[Cell]) {
+    for cell in cells {
+        check_cell(rt, alloc, cell);
     }
-    run_on_new(rt, alloc, &START, &rows, name);
-    Ok(())
 }
 
 #[test]
 fn each_cell(rt: HostRuntime) -> Result<(), Fail> {
-    for cell in &SIGNALS {
-        check_cell(&rt, rt.alloc(), cell)?;
-    }
-    for cell in &REPLIES {
-        check_cell(&rt, rt.alloc(), cell)?;
-    }
+    check_cells(&rt, rt.alloc(), &SIGNALS);
+    check_cells(&rt, rt.alloc(), &REPLIES);
+    Ok(())
+}
+
+#[test]
+fn marks(rt: HostRuntime) -> Result<(), Fail> {
     run_on_new(&rt, rt.alloc(), &EARLY, &MARKS, "marks");
     Ok(())
 }
