@@ -29,6 +29,11 @@ fn assert_right(rt: &impl Abort, wrong: Option<WrongRow>, name: &str) {
     );
 }
 
+/// Asserts that a run had more growths than the first number, and fewer than the second, which were tried at most.
+fn assert_between(rt: &impl Abort, runs: u64, least: u64, most: u64) {
+    assert!(rt; least < runs && runs < most, "{runs}");
+}
+
 /// Whether nodes are listed as these: their ids, generations and lookup counts.
 fn are_nodes(given: &[NodeCount], wanted: &[(u64, u64, u64)]) -> bool {
     if given.len() != wanted.len() {

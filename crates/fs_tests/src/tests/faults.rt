@@ -7,7 +7,7 @@ use fs_server::{Server, ServerFault, ServerOf};
 use std::alloc::{AllocError, Global};
 use std::test::Fail;
 
-/// A frame in hexadecimal digits, the fault for which it was refused, and the reply, if there is one.
+/// A frame in digits, the fault for which it was refused, and the reply, if there is one.
 struct Row {
     frame: &'static str,
     fault: ServerFault,
@@ -18,44 +18,44 @@ struct Row {
 static REPLIED: [Row; 8] = [
     // opcodes that are not known: 99, 0 and 43
     Row {
-        frame: "28000000 63000000 0807060504030201 0100000000000000 00000000 00000000 00000000 00000000",
+        frame: "28000000 63000000 0807060504030201 01000000. ....",
         fault: ServerFault::Wire,
         reply: Some("10000000 daffffff 0807060504030201"),
     },
     Row {
-        frame: "28000000 00000000 0807060504030201 0100000000000000 00000000 00000000 00000000 00000000",
+        frame: "28000000 . 0807060504030201 01000000. ....",
         fault: ServerFault::Wire,
         reply: Some("10000000 daffffff 0807060504030201"),
     },
     Row {
-        frame: "28000000 2b000000 0807060504030201 0100000000000000 00000000 00000000 00000000 00000000",
+        frame: "28000000 2b000000 0807060504030201 01000000. ....",
         fault: ServerFault::Wire,
         reply: Some("10000000 daffffff 0807060504030201"),
     },
     // a GETATTR without its body, a LOOKUP of no name, and a READDIRPLUS, which this minor knows, without its body
     Row {
-        frame: "28000000 03000000 0807060504030201 0100000000000000 00000000 00000000 00000000 00000000",
+        frame: "28000000 03000000 0807060504030201 01000000. ....",
         fault: ServerFault::Wire,
         reply: Some("10000000 fbffffff 0807060504030201"),
     },
     Row {
-        frame: "29000000 01000000 0807060504030201 0100000000000000 00000000 00000000 00000000 00000000 00",
+        frame: "29000000 01000000 0807060504030201 01000000. .... 00",
         fault: ServerFault::Wire,
         reply: Some("10000000 fbffffff 0807060504030201"),
     },
     Row {
-        frame: "28000000 2c000000 0807060504030201 0100000000000000 00000000 00000000 00000000 00000000",
+        frame: "28000000 2c000000 0807060504030201 01000000. ....",
         fault: ServerFault::Wire,
         reply: Some("10000000 fbffffff 0807060504030201"),
     },
     // whole frames, refused for the nodes that they name
     Row {
-        frame: "2a000000 01000000 0807060504030201 0900000000000000 00000000 00000000 00000000 00000000 6100",
+        frame: "2a000000 01000000 0807060504030201 09000000. .... 6100",
         fault: ServerFault::UnknownNode,
         reply: Some("10000000 fbffffff 0807060504030201"),
     },
     Row {
-        frame: "2a000000 01000000 0807060504030201 0100000000000000 00000000 00000000 00000000 00000000 6100",
+        frame: "2a000000 01000000 0807060504030201 01000000. .... 6100",
         fault: ServerFault::TooManyForgets,
         reply: Some("10000000 fbffffff 0807060504030201"),
     },
@@ -65,27 +65,27 @@ static REPLIED: [Row; 8] = [
 static UNREPLIED: [Row; 12] = [
     // FORGET, INTERRUPT and BATCH_FORGET: without their bodies, and whole
     Row {
-        frame: "28000000 02000000 6400000000000000 0200000000000000 00000000 00000000 00000000 00000000",
+        frame: "28000000 02000000 64000000. 02000000. ....",
         fault: ServerFault::Wire,
         reply: None,
     },
     Row {
-        frame: "28000000 24000000 6500000000000000 0000000000000000 00000000 00000000 00000000 00000000",
+        frame: "28000000 24000000 65000000. ......",
         fault: ServerFault::Wire,
         reply: None,
     },
     Row {
-        frame: "28000000 2a000000 6400000000000000 0000000000000000 00000000 00000000 00000000 00000000",
+        frame: "28000000 2a000000 64000000. ......",
         fault: ServerFault::Wire,
         reply: None,
     },
     Row {
-        frame: "30000000 02000000 6400000000000000 0900000000000000 00000000 00000000 00000000 00000000 0100000000000000",
+        frame: "30000000 02000000 64000000. 09000000. .... 01000000.",
         fault: ServerFault::UnknownNode,
         reply: None,
     },
     Row {
-        frame: "40000000 2a000000 6400000000000000 0000000000000000 00000000 00000000 00000000 00000000 01000000 00000000 0200000000000000 0200000000000000",
+        frame: "40000000 2a000000 64000000. ...... 01000000 . 02000000. 02000000.",
         fault: ServerFault::TooManyForgets,
         reply: None,
     },
@@ -96,33 +96,33 @@ static UNREPLIED: [Row; 12] = [
         reply: None,
     },
     Row {
-        frame: "27000000 01000000 6400000000000000 0100000000000000 00000000 00000000 00000000 000000",
+        frame: "27000000 01000000 64000000. 01000000. ... 000000",
         fault: ServerFault::Wire,
         reply: None,
     },
     Row {
-        frame: "27000000 63000000 6400000000000000 0100000000000000 00000000 00000000 00000000 00000000",
+        frame: "27000000 63000000 64000000. 01000000. ....",
         fault: ServerFault::Wire,
         reply: None,
     },
     Row {
-        frame: "29000000 63000000 6400000000000000 0100000000000000 00000000 00000000 00000000 00000000",
+        frame: "29000000 63000000 64000000. 01000000. ....",
         fault: ServerFault::Wire,
         reply: None,
     },
     // a repeated unique, a counter at its end and out of memory
     Row {
-        frame: "2a000000 01000000 6400000000000000 0100000000000000 00000000 00000000 00000000 00000000 6100",
+        frame: "2a000000 01000000 64000000. 01000000. .... 6100",
         fault: ServerFault::RepeatedUnique,
         reply: None,
     },
     Row {
-        frame: "2a000000 01000000 6400000000000000 0100000000000000 00000000 00000000 00000000 00000000 6100",
+        frame: "2a000000 01000000 64000000. 01000000. .... 6100",
         fault: ServerFault::Exhausted,
         reply: None,
     },
     Row {
-        frame: "2a000000 01000000 6400000000000000 0100000000000000 00000000 00000000 00000000 00000000 6100",
+        frame: "2a000000 01000000 64000000. 01000000. .... 6100",
         fault: ServerFault::Memory,
         reply: None,
     },

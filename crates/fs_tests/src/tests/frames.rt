@@ -1,6 +1,6 @@
 //! Steps of a server over frames, and what each must give.
 
-use crate::tests::{are_nodes, assert_right};
+use crate::tests::{are_nodes, assert_between, assert_right};
 use fail_at::{FailAt, Outcome, Tried, first_wrong, judged};
 use fk_wire::{Request, RequestBody, write_request};
 use fs_nodes::{ListNodes, NodeStore, NodeTable};
@@ -34,7 +34,8 @@ pub enum Asks {
     Readdirplus(u64, u32),
 }
 
-/// A step, and what it must give. Frames are in hexadecimal digits; spaces are for reading alone.
+/// A step, and what it must give. Frames are in hexadecimal digits, and a dot is four bytes of
+/// zeros; spaces are for reading alone.
 #[derive(Clone, Copy)]
 pub enum Row {
     /// A mount: how long found and missing names are valid, in milliseconds.
@@ -109,13 +110,21 @@ fn body_of(asks: Asks) -> RequestBody<'static> {
     }
 }
 
-/// The bytes of a text. What is no hexadecimal digit is for reading alone.
+/// The bytes of a text: hexadecimal digits and dots, each of which is four bytes of zeros. What is neither is for reading
+/// alone.
 pub fn unhex(alloc: Global, text: &str) -> Result<Vec<u8>, AllocError> {
     let mut digits = Vec::new(alloc);
-    for digit in text.bytes().filter(|byte| byte.is_ascii_hexdigit()) {
-        digits.push(digit)?;
+    for byte in text.as_bytes() {
+        if *byte == b'.' {
+            digits.extend_from_slice(b"00000000")?;
+        } else if byte.is_ascii_hexdigit() {
+            digits.push(*byte)?;
+        }
     }
-    hex::decode(alloc, digits.as_slice()).map_err(|_| AllocError)
+    match hex::decode(alloc, digits.as_slice()) {
+        Ok(bytes) => Ok(bytes),
+        Err(_) => Err(AllocError),
+    }
 }
 
 /// Whether bytes are those of a text.
@@ -310,30 +319,53 @@ fn take_digits<S: NodeStore>(
     }
 }
 
+/// Whether nothing is held under a unique.
+fn is_unheld<S: NodeStore>(server: &mut ServerOf<S>, unique: u64) -> bool {
+    server.perform(unique).err() == Some(Refusal::NoSuch)
+}
+
+/// Whether no copy is sent under a unique.
+fn has_no_copy<S: NodeStore>(server: &mut ServerOf<S>, unique: u64) -> bool {
+    server.again(unique).err() == Some(Refusal::NoCopy)
+}
+
+fn settles<S: NodeStore>(
+    server: &mut ServerOf<S>,
+    copy: u64,
+    settled: WriteResult,
+    wanted: Result<(), Refusal>,
+) -> bool {
+    server.settle(copy, settled) == wanted
+}
+
+/// A step that is done or not.
+fn is_done<S: NodeStore>(server: &mut ServerOf<S>, row: Row) -> bool {
+    match row {
+        Row::Mount(found_ms, missing_ms) => mounts(server, found_ms, missing_ms, Minor::M31),
+        Row::Mount15(found_ms, missing_ms) => mounts(server, found_ms, missing_ms, Minor::M15),
+        Row::Abort => aborts(server),
+        Row::Unheld(unique) => is_unheld(server, unique),
+        Row::NoCopy(unique) => has_no_copy(server, unique),
+        Row::Settles(copy, result) => settles(server, copy, result, Ok(())),
+        Row::NoSettle(copy) => {
+            settles(server, copy, WriteResult::Accepted, Err(Refusal::NoSuch))
+        }
+        _ => false,
+    }
+}
+
 impl<S: NodeStore> Tried<Row, S::Heap> for ServerOf<S> {
     fn attempt(&mut self, heap: S::Heap, alloc: Global, row: Row) -> Outcome {
         match row {
-            Row::Mount(found_ms, missing_ms) => {
-                judged(mounts(self, found_ms, missing_ms, Minor::M31))
-            }
-            Row::Mount15(found_ms, missing_ms) => {
-                judged(mounts(self, found_ms, missing_ms, Minor::M15))
-            }
-            Row::Abort => judged(aborts(self)),
             Row::Holds(unique, nodeid, asks) => holds(self, alloc, unique, nodeid, asks),
-            Row::Takes(digits, _) => take_digits(self, alloc, digits, row),
-            Row::Answers(digits, _) => take_digits(self, alloc, digits, row),
-            Row::Refuses(digits, _, _) => take_digits(self, alloc, digits, row),
+            Row::Takes(digits, _) | Row::Answers(digits, _) | Row::Refuses(digits, _, _) => {
+                take_digits(self, alloc, digits, row)
+            }
             Row::Performs(unique, errno, text) => performs(self, alloc, unique, errno, text),
             Row::Lost(unique, errno) => is_lost(self, unique, errno),
-            Row::Unheld(unique) => judged(self.perform(unique).err() == Some(Refusal::NoSuch)),
             Row::Again(unique, text) => copies_again(self, alloc, unique, text),
-            Row::NoCopy(unique) => judged(self.again(unique).err() == Some(Refusal::NoCopy)),
-            Row::Settles(copy, result) => judged(self.settle(copy, result).is_ok()),
-            Row::NoSettle(copy) => {
-                judged(self.settle(copy, WriteResult::Accepted) == Err(Refusal::NoSuch))
-            }
             Row::Nodes(nodes) => lists(self, heap, nodes),
+            _ => judged(is_done(self, row)),
         }
     }
 }
@@ -363,10 +395,37 @@ fn run_made<S: NodeStore + Drop>(
     Ok(())
 }
 
-/// Tries the rows of two lists on new servers with each growth refused in turn: how many runs that took.
-fn runs_refused<S: NodeStore + Drop>(
+/// The same over the table of nodes. Only here and below is it over one type: each such call is checked anew.
+fn run_table<A: Allocator + Copy>(
     rt: &impl Abort,
-    heap: S::Heap,
+    heap: A,
+    refusing: &FailAt<Global>,
+    alloc: Global,
+    first: &[Row],
+    rows: &[Row],
+    name: &str,
+) -> Result<(), AllocError> {
+    run_made::<NodeTable<A>>(rt, heap, refusing, alloc, first, rows, name)
+}
+
+/// The same over the list of nodes.
+fn run_list<A: Allocator + Copy>(
+    rt: &impl Abort,
+    heap: A,
+    refusing: &FailAt<Global>,
+    alloc: Global,
+    first: &[Row],
+    rows: &[Row],
+    name: &str,
+) -> Result<(), AllocError> {
+    run_made::<ListNodes<A>>(rt, heap, refusing, alloc, first, rows, name)
+}
+
+/// Tries the rows of two lists on new servers with each growth refused in turn, over the table of nodes: how many runs
+/// that took.
+fn runs_of_table<A: Allocator + Copy>(
+    rt: &impl Abort,
+    heap: A,
     refusing: &FailAt<Global>,
     alloc: Global,
     first: &[Row],
@@ -375,14 +434,14 @@ fn runs_refused<S: NodeStore + Drop>(
 ) -> Result<u64, AllocError> {
     let mut runs = 0;
     for n in refusing.each_growth(400) {
-        run_made::<S>(rt, heap, refusing, alloc, first, rows, name)?;
+        run_table(rt, heap, refusing, alloc, first, rows, name)?;
         runs = n;
     }
     Ok(runs)
 }
 
-/// The same over the table of nodes and over the list.
-pub fn runs_of_both<A: Allocator + Copy>(
+/// The same over the list of nodes.
+fn runs_of_list<A: Allocator + Copy>(
     rt: &impl Abort,
     heap: A,
     refusing: &FailAt<Global>,
@@ -390,34 +449,37 @@ pub fn runs_of_both<A: Allocator + Copy>(
     first: &[Row],
     rows: &[Row],
     name: &str,
-) -> Result<(u64, u64), AllocError> {
-    let of_table = runs_refused::<NodeTable<A>>(rt, heap, refusing, alloc, first, rows, name)?;
-    let of_list = runs_refused::<ListNodes<A>>(rt, heap, refusing, alloc, first, rows, name)?;
-    Ok((of_table, of_list))
+) -> Result<u64, AllocError> {
+    let mut runs = 0;
+    for n in refusing.each_growth(400) {
+        run_list(rt, heap, refusing, alloc, first, rows, name)?;
+        runs = n;
+    }
+    Ok(runs)
 }
 
-/// Tries the rows of two lists on a new server over the table of nodes, and on one over the list.
-fn run_both<A: Allocator + Copy>(
-    rt: &impl Abort,
-    heap: A,
-    refusing: &FailAt<Global>,
-    alloc: Global,
-    first: &[Row],
-    rows: &[Row],
-    name: &str,
-) -> Result<(), AllocError> {
-    run_made::<NodeTable<A>>(rt, heap, refusing, alloc, first, rows, name)?;
-    run_made::<ListNodes<A>>(rt, heap, refusing, alloc, first, rows, name)
-}
-
-/// The same, and refuses no growth.
-pub fn run_on_new(
+/// Tries the rows of two lists on new servers with each growth refused in turn, over the table of nodes and over the
+/// list. Each takes more runs than this number, and fewer than 400.
+pub fn check_refused(
     rt: &impl Abort,
     alloc: Global,
     first: &[Row],
     rows: &[Row],
     name: &str,
+    least: u64,
 ) -> Result<(), AllocError> {
+    let heap = FailAt::new(alloc);
+    let of_table = runs_of_table(rt, &heap, &heap, alloc, first, rows, name)?;
+    let of_list = runs_of_list(rt, &heap, &heap, alloc, first, rows, name)?;
+    assert_between(rt, of_table, least, 400);
+    assert_between(rt, of_list, least, 400);
+    Ok(())
+}
+
+/// Tries the rows of two lists on a new server over the table of nodes, and on one over the list, and refuses no growth.
+pub fn run_on_new(rt: &impl Abort, alloc: Global, first: &[Row], rows: &[Row], name: &str) {
     let refusing = FailAt::new(alloc);
-    run_both(rt, alloc, &refusing, alloc, first, rows, name)
+    let of_table = run_table(rt, alloc, &refusing, alloc, first, rows, name);
+    let of_list = run_list(rt, alloc, &refusing, alloc, first, rows, name);
+    assert!(rt; of_table.is_ok() && of_list.is_ok(), "{name}: no memory");
 }

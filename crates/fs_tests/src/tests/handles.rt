@@ -1,6 +1,6 @@
 //! File handles: each call once, and refused growths.
 
-use crate::tests::assert_right;
+use crate::tests::{assert_between, assert_right};
 use fail_at::{FailAt, Outcome, Tried, first_wrong, judged};
 use fs_handles::HandleTable;
 use fuse_spec::limits::COUNTER_END;
@@ -107,7 +107,7 @@ fn calls_with_each_growth_refused(rt: HostRuntime) -> Result<(), Fail> {
         run_calls(&rt, &heap, &heap, rt.alloc());
         runs = n;
     }
-    assert!(rt; 2 < runs && runs < 24, "{runs}");
+    assert_between(&rt, runs, 2, 24);
     assert!(rt; matches!(copy_keeps_number(rt.alloc()), Ok(true)), "copy");
     Ok(())
 }

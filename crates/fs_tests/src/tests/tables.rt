@@ -1,5 +1,6 @@
 //! A table whose keys come in any order: each is found, and goes again, also where each growth is refused in turn.
 
+use crate::tests::assert_between;
 use fail_at::FailAt;
 use fuse_tables::RisingTable;
 use std::alloc::{AllocError, Allocator};
@@ -182,12 +183,19 @@ fn values_are_replaced_and_keys_kept(rt: HostRuntime) -> Result<(), Fail> {
 #[test]
 fn values_are_changed_in_place(rt: HostRuntime) -> Result<(), Fail> {
     let (changed, unchanged) = change_in_place(rt.alloc())?;
-    assert!(rt; changed[0] == Some(1010));
-    assert!(rt; changed[1] == Some(1094));
-    assert!(rt; changed[2] == Some(1020));
-    assert!(rt; changed[3] == Some(1061));
-    assert!(rt; changed[4] == Some(1050));
-    assert!(rt; changed[5].is_none() && changed[6].is_none() && changed[7].is_none());
+    assert!(rt;
+        changed
+            == [
+                Some(1010),
+                Some(1094),
+                Some(1020),
+                Some(1061),
+                Some(1050),
+                None,
+                None,
+                None,
+            ]
+    );
     assert!(rt; unchanged == 34);
     Ok(())
 }
@@ -200,6 +208,6 @@ fn each_growth_of_a_table_refused(rt: HostRuntime) -> Result<(), Fail> {
         assert!(rt; fill(&heap)? == [100, 100, 100, 0], "growth {n}");
         runs = n;
     }
-    assert!(rt; 4 < runs && runs < 80, "{runs}");
+    assert_between(&rt, runs, 4, 80);
     Ok(())
 }

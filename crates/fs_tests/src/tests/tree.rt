@@ -58,16 +58,26 @@ enum Row {
     LinkOften(u64),
 }
 
-fn found(file: Option<u64>) -> Answer {
-    match file {
-        Some(file) => Answer::File(file),
-        None => Answer::Missing,
+fn found(outcome: Result<Option<u64>, TreeError>) -> Result<Answer, TreeError> {
+    match outcome {
+        Ok(Some(file)) => Ok(Answer::File(file)),
+        Ok(None) => Ok(Answer::Missing),
+        Err(error) => Err(error),
+    }
+}
+
+fn made(outcome: Result<u64, TreeError>) -> Result<Answer, TreeError> {
+    match outcome {
+        Ok(file) => Ok(Answer::File(file)),
+        Err(error) => Err(error),
     }
 }
 
 fn done(outcome: Result<(), TreeError>) -> Result<Answer, TreeError> {
-    outcome?;
-    Ok(Answer::Done)
+    match outcome {
+        Ok(()) => Ok(Answer::Done),
+        Err(error) => Err(error),
+    }
 }
 
 /// Performs an operation. Where a counter is at its end, or a file to be written is not regular: Invalid.
@@ -79,9 +89,9 @@ fn perform<A: Allocator + Copy>(
         return Err(TreeError::Invalid);
     }
     match operation {
-        Operation::Lookup(dir, name) => Ok(found(tree.lookup(dir, name.as_bytes())?)),
-        Operation::Mkdir(dir, name) => Ok(Answer::File(tree.mkdir(dir, name.as_bytes())?)),
-        Operation::Create(dir, name) => Ok(Answer::File(tree.create(dir, name.as_bytes())?)),
+        Operation::Lookup(dir, name) => found(tree.lookup(dir, name.as_bytes())),
+        Operation::Mkdir(dir, name) => made(tree.mkdir(dir, name.as_bytes())),
+        Operation::Create(dir, name) => made(tree.create(dir, name.as_bytes())),
         Operation::Open(file) => done(tree.open(file)),
         Operation::Write(file, offset, text) => {
             if !tree.is_regular(file) {

@@ -6,7 +6,6 @@ use fail_at::FailAt;
 use fuse_device::ListDevice;
 use fuse_spec::NodeCount;
 use std::alloc::{AllocError, Global};
-use std::process::Abort;
 use std::test::Fail;
 
 /// ENOMEM, as a reply has it.
@@ -20,43 +19,47 @@ fn refusals(told: &Told) -> usize {
         .count()
 }
 
-/// Asserts that each of the seven requests was answered, and each node counted as often as it was given.
-fn assert_counts(rt: &impl Abort, nodes: &[NodeCount], told: &Told, turn: u64) {
-    assert_eq!(rt; told.errors.len(), 7, "turn {turn}");
+/// Whether each of the seven requests was answered, and each node counted as often as it was given.
+fn are_counted(nodes: &[NodeCount], told: &Told) -> bool {
     let mut counts = 0u64;
     for node in nodes {
-        let nodeid = node.nodeid;
-        assert_eq!(rt;
-            node.count,
-            told.count(nodeid),
-            "turn {turn}, node {nodeid}"
-        );
+        if node.count != told.count(node.nodeid) {
+            return false;
+        }
         counts = counts.wrapping_add(node.count);
     }
-    assert_eq!(rt; counts, told.nodes.len() as u64, "turn {turn}");
+    told.errors.len() == 7 && counts == told.nodes.len() as u64
 }
 
-/// Serves the session in a turn: how many requests are replied ENOMEM, or 1 where serving itself is refused memory.
+/// How many requests are replied ENOMEM, with the nodes that are left; or 1 where serving itself is refused memory, and
+/// no nodes are known. `None` where the nodes are not counted so, or a request is replied ENOMEM beside that.
+fn refused_of(nodes: Option<&[NodeCount]>, told: &Told) -> Option<u64> {
+    let refused = refusals(told) as u64;
+    match nodes {
+        Some(nodes) if are_counted(nodes, told) => Some(refused),
+        None if refused == 0 => Some(1),
+        _ => None,
+    }
+}
+
+/// Serves the session in a turn: how many requests are replied ENOMEM, or 1 where serving itself is refused memory;
+/// `None` where it went wrong.
 fn refused_in(
-    rt: &impl Abort,
     heap: &FailAt<Global>,
     alloc: Global,
     slices: &[&[u8]],
-    turn: u64,
-) -> Result<u64, Fail> {
+) -> Result<Option<u64>, AllocError> {
     let mut device = ListDevice::new(alloc, slices);
     let served = serve_device(heap, &mut device);
-    let told = told_by(alloc, device.sent())?.expect(rt, "replies");
-    match served {
-        Ok((_end, nodes)) => {
-            assert_counts(rt, &nodes, &told, turn);
-            Ok(refusals(&told) as u64)
-        }
-        Err(AllocError) => {
-            assert_eq!(rt; refusals(&told), 0, "turn {turn}");
-            Ok(1)
-        }
-    }
+    let told = told_by(alloc, device.sent());
+    drop(device);
+    let Some(told) = told? else {
+        return Ok(None);
+    };
+    Ok(match served {
+        Ok((_end, nodes)) => refused_of(Some(&nodes), &told),
+        Err(AllocError) => refused_of(None, &told),
+    })
 }
 
 /// In each turn but the last one growth is refused: before the first frame or in the list of nodes, or one request is
@@ -69,10 +72,12 @@ fn each_growth_is_refused(rt: HostRuntime) -> Result<(), Fail> {
     let mut turns = 0;
     let mut refused = 0u64;
     for turn in heap.each_growth(200) {
-        refused = refused.wrapping_add(refused_in(&rt, &heap, rt.alloc(), &slices, turn)?);
+        let more = refused_in(&heap, rt.alloc(), &slices)?;
+        assert!(rt; more.is_some(), "turn {turn}");
+        refused = refused.wrapping_add(more.unwrap_or(0));
         turns = turn;
     }
     assert!(rt; turns < 200);
-    assert_eq!(rt; refused.wrapping_add(1), turns);
+    assert!(rt; refused.wrapping_add(1) == turns, "{refused} {turns}");
     Ok(())
 }

@@ -7,7 +7,7 @@ use fs_serve::serve;
 use fs_server::{Server, ServerFault};
 use fuse_device::{DeviceEnd, ListDevice};
 use fuse_spec::{Opened, WriteResult};
-use std::alloc::Global;
+use std::alloc::{AllocError, Global};
 use std::process::Abort;
 use std::test::Fail;
 
@@ -62,8 +62,23 @@ impl<'a> Session<'a> {
         Session { alloc, heap, ample }
     }
 
-    /// What the server sends while it serves these requests, under the uniques 2, 4, 6 and so on, before a device that
-    /// says this to the first send.
+    /// What the server sends while it serves these frames, before a device that says this to the first send.
+    fn sent_of(
+        &self,
+        server: &mut Refusable<'a>,
+        frames: &[&[u8]],
+        at_send: Result<WriteResult, DeviceEnd>,
+    ) -> Result<Vec<u8>, AllocError> {
+        let mut device = ListDevice::new(self.alloc, frames);
+        device.answer_send(1, at_send);
+        let end = serve(self.ample, server, &mut device);
+        let sent = device.sent().to_vec(self.alloc);
+        drop(device);
+        let _end = end?;
+        sent
+    }
+
+    /// The same while it serves these requests, under the uniques 2, 4, 6 and so on.
     fn sent_by(
         &self,
         server: &mut Refusable<'a>,
@@ -72,40 +87,27 @@ impl<'a> Session<'a> {
     ) -> Result<Vec<u8>, Fail> {
         let frames = frames_of(self.alloc, requests)?;
         let slices = lent(self.alloc, &frames)?;
-        let mut device = ListDevice::new(self.alloc, &slices);
-        device.answer_send(1, at_send);
-        let _end = serve(self.ample, server, &mut device)?;
-        let mut sent = Vec::new(self.alloc);
-        sent.extend_from_slice(device.sent())?;
-        Ok(sent)
+        Ok(self.sent_of(server, &slices, at_send)?)
     }
 
-    /// Asserts that a request has this reply while no memory is to be had, and that none is asked for.
-    fn check_takes_none(
+    /// Whether a request has this reply while no memory is to be had, and none is asked for.
+    fn takes_none(
         &self,
-        rt: &impl Abort,
         server: &mut Refusable<'a>,
         request: (u64, RequestBody<'static>),
         reply: [u8; 16],
-    ) -> Result<(), Fail> {
+    ) -> Result<bool, Fail> {
         self.heap.refuse(1);
         let sent = self.sent_by(server, &[request], ACCEPTED)?;
-        assert_eq!(rt; sent.as_slice(), reply.as_slice());
-        assert_eq!(rt; self.heap.left(), 1);
+        let takes_none = self.heap.left() == 1;
         self.heap.refuse(0);
-        Ok(())
+        Ok(takes_none && sent.as_slice() == reply.as_slice())
     }
 
-    /// Asserts what a READ under the file handle is replied.
-    fn check_read(
-        &self,
-        rt: &impl Abort,
-        server: &mut Refusable<'a>,
-        reply: [u8; 16],
-    ) -> Result<(), Fail> {
+    /// Whether a READ under the file handle has this reply.
+    fn reads(&self, server: &mut Refusable<'a>, reply: [u8; 16]) -> Result<bool, Fail> {
         let sent = self.sent_by(server, &[READ], ACCEPTED)?;
-        assert_eq!(rt; sent.as_slice(), reply.as_slice());
-        Ok(())
+        Ok(sent.as_slice() == reply.as_slice())
     }
 }
 
@@ -117,11 +119,19 @@ fn check_without_memory<'a>(
     server: &mut Refusable<'a>,
 ) -> Result<(), Fail> {
     let _opened = session.sent_by(server, &OPENED, ACCEPTED)?;
-    session.check_takes_none(rt, server, (9, RequestBody::Release { fh: 1 }), EIO)?;
-    session.check_read(rt, server, DONE)?;
-    session.check_takes_none(rt, server, RELEASE, DONE)?;
-    session.check_read(rt, server, EBADF)?;
-    session.check_takes_none(rt, server, RELEASE, EBADF)
+    let elsewhere = (9, RequestBody::Release { fh: 1 });
+    assert!(rt;
+        session.takes_none(server, elsewhere, EIO)?,
+        "of another node"
+    );
+    assert!(rt; session.reads(server, DONE)?, "open");
+    assert!(rt; session.takes_none(server, RELEASE, DONE)?, "released");
+    assert!(rt; session.reads(server, EBADF)?, "closed");
+    assert!(rt;
+        session.takes_none(server, RELEASE, EBADF)?,
+        "released again"
+    );
+    Ok(())
 }
 
 /// The file is closed, whatever the device says to the reply.
@@ -133,7 +143,8 @@ fn check_result<'a>(
 ) -> Result<(), Fail> {
     let _opened = session.sent_by(server, &OPENED, ACCEPTED)?;
     let _sent = session.sent_by(server, &[RELEASE], at_send)?;
-    session.check_read(rt, server, EBADF)
+    assert!(rt; session.reads(server, EBADF)?, "closed");
+    Ok(())
 }
 
 /// A RELEASE is not done under a unique that is held, and done after an abort too.
@@ -147,10 +158,10 @@ fn check_at_once<'a>(
     let frames = frames_of(session.alloc, &[READ])?;
     let read = frames.first().expect(rt, "the frame of READ");
     let _held = server.take(read)?;
-    assert_eq!(rt; server.release(2, opened), Err(ServerFault::RepeatedUnique));
+    assert!(rt; server.release(2, opened) == Err(ServerFault::RepeatedUnique));
     server.connection_lost();
-    assert_eq!(rt; server.release(4, opened), Ok(0));
-    assert_eq!(rt; server.release(6, opened), Ok(9));
+    assert!(rt; server.release(4, opened) == Ok(0));
+    assert!(rt; server.release(6, opened) == Ok(9));
     Ok(())
 }
 

@@ -133,31 +133,34 @@ pub fn serve_device<A: Allocator + Copy>(
     served
 }
 
-/// Serves the session, with another result at a send: how it ended, after how many sends, and the nodes that are left.
-fn serve_session(
+/// Whether serving these frames, with another result at a send, ends so, after so many sends, and with these nodes.
+fn is_served_so(
     alloc: Global,
-    send: u64,
-    at_send: Result<WriteResult, DeviceEnd>,
-) -> Result<(Option<DeviceEnd>, u64, Vec<NodeCount>), Fail> {
-    let frames = session(alloc)?;
-    let slices = lent(alloc, &frames)?;
+    frames: &[Vec<u8>],
+    (send, at_send): (u64, Result<WriteResult, DeviceEnd>),
+    wanted: (DeviceEnd, u64, Nodes),
+) -> Result<bool, AllocError> {
+    let slices = lent(alloc, frames)?;
     let mut device = ListDevice::new(alloc, &slices);
     device.answer_send(send, at_send);
-    let (end, nodes) = serve_device(alloc, &mut device)?;
-    Ok((end, device.sends(), nodes))
+    let served = serve_device(alloc, &mut device);
+    let sends = device.sends();
+    drop(device);
+    let (end, nodes) = served?;
+    Ok(end == Some(wanted.0) && sends == wanted.1 && are_nodes(&nodes, wanted.2))
 }
 
 /// Asserts how serving the session ends, after how many sends, and with which nodes.
 fn check_session(
     rt: &impl Abort,
     alloc: Global,
-    (send, at_send): (u64, Result<WriteResult, DeviceEnd>),
+    at_send: (u64, Result<WriteResult, DeviceEnd>),
     wanted: (DeviceEnd, u64, Nodes),
 ) -> Result<(), Fail> {
-    let (end, sends, nodes) = serve_session(alloc, send, at_send)?;
-    assert_eq!(rt; end, Some(wanted.0), "send {send}");
-    assert_eq!(rt; sends, wanted.1, "send {send}");
-    assert!(rt; are_nodes(&nodes, wanted.2), "send {send}");
+    let frames = session(alloc)?;
+    let is_right = is_served_so(alloc, &frames, at_send, wanted);
+    drop(frames);
+    assert!(rt; is_right?, "send {}", at_send.0);
     Ok(())
 }
 

@@ -72,6 +72,22 @@ impl Told {
     }
 }
 
+/// The first of replies of the session that stand one after another, and those behind it; `None` where it is none.
+fn first_reply(sent: &[u8]) -> Option<(Reply<'_>, &[u8])> {
+    if sent.len() < 16 {
+        return None;
+    }
+    let len = number(&sent[..4]) as usize;
+    let opcode = opcode_of(number(&sent[8..16]))?;
+    if len > sent.len() {
+        return None;
+    }
+    match read_reply(opcode, &sent[..len]) {
+        Ok(reply) => Some((reply, &sent[len..])),
+        Err(_) => None,
+    }
+}
+
 /// Reads the replies of the session that stand one after another; `None` where one is none.
 pub fn told_by(alloc: Global, sent: &[u8]) -> Result<Option<Told>, AllocError> {
     let mut told = Told::new(alloc);
@@ -80,21 +96,11 @@ pub fn told_by(alloc: Global, sent: &[u8]) -> Result<Option<Told>, AllocError> {
         if rest.is_empty() {
             return Ok(Some(told));
         }
-        if rest.len() < 16 {
-            return Ok(None);
-        }
-        let len = number(&rest[..4]) as usize;
-        let Some(opcode) = opcode_of(number(&rest[8..16])) else {
-            return Ok(None);
-        };
-        if len > rest.len() {
-            return Ok(None);
-        }
-        let Ok(reply) = read_reply(opcode, &rest[..len]) else {
+        let Some((reply, behind)) = first_reply(rest) else {
             return Ok(None);
         };
         told.note(&reply)?;
-        rest = &rest[len..];
+        rest = behind;
     }
     Ok(None)
 }

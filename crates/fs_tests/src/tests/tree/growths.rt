@@ -1,7 +1,7 @@
 //! Refused growths change nothing, and the same call succeeds after them.
 
 use super::{Answer, Operation, Row};
-use crate::tests::assert_right;
+use crate::tests::{assert_between, assert_right};
 use fail_at::{FailAt, first_wrong};
 use fs_tree::{Kind, Tree};
 use std::alloc::{AllocError, Allocator, Global};
@@ -55,7 +55,7 @@ fn each_growth_refused(rt: HostRuntime) -> Result<(), Fail> {
         run_calls(&rt, &heap, &heap, rt.alloc())?;
         runs = n;
     }
-    assert!(rt; 9 < runs && runs < 80, "{runs}");
+    assert_between(&rt, runs, 9, 80);
     Ok(())
 }
 

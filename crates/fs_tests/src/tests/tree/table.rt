@@ -2,7 +2,7 @@
 
 use super::{Answer, Listed, Operation, Row};
 use crate::tests::assert_right;
-use fail_at::{FailAt, first_wrong};
+use fail_at::{FailAt, WrongRow, first_wrong};
 use fs_tree::{Attributes, Kind, Tree, TreeError};
 use std::alloc::{AllocError, Global};
 use std::process::Abort;
@@ -248,37 +248,54 @@ static DISCARDED: [Row; 21] = [
     Row::Is(3, [false, true, false], 1),
 ];
 
-/// Tries the rows of two lists on a new tree, and refuses no growth.
-fn run_on_new(
-    rt: &impl Abort,
+/// The first row of two lists that does not come to what it must on a new tree. No growth is refused.
+fn wrong_on_new(
     alloc: Global,
     first: &[Row],
     rows: &[Row],
-    name: &str,
-) -> Result<(), AllocError> {
+) -> Result<Option<WrongRow>, AllocError> {
     let refusing = FailAt::new(alloc);
     let mut tree = Tree::new(alloc)?;
     let wrong = first_wrong(&mut tree, alloc, &refusing, alloc, &[first, rows]);
     drop(tree);
-    assert_right(rt, wrong, name);
-    Ok(())
+    Ok(wrong)
+}
+
+/// Tries the rows of two lists on a new tree, and refuses no growth.
+fn run_on_new(rt: &impl Abort, alloc: Global, first: &[Row], rows: &[Row], name: &str) {
+    match wrong_on_new(alloc, first, rows) {
+        Ok(wrong) => assert_right(rt, wrong, name),
+        Err(AllocError) => assert!(rt; false, "{name}: no memory"),
+    }
 }
 
 /// The same of the rows of one list, behind those that make the files.
-fn run_started(rt: &impl Abort, alloc: Global, rows: &[Row], name: &str) -> Result<(), AllocError> {
-    run_on_new(rt, alloc, &START, rows, name)
+fn run_started(rt: &impl Abort, alloc: Global, rows: &[Row], name: &str) {
+    run_on_new(rt, alloc, &START, rows, name);
+}
+
+fn check_names(rt: &impl Abort, alloc: Global) {
+    run_started(rt, alloc, &LOOKUPS_AND_MAKES, "lookups and makes");
+    run_started(rt, alloc, &REMOVALS, "removals");
+    run_started(rt, alloc, &LINKS, "links");
+}
+
+fn check_renames(rt: &impl Abort, alloc: Global) {
+    run_started(rt, alloc, &REFUSED_RENAMES, "refused renames");
+    run_started(rt, alloc, &RENAMES, "renames");
+}
+
+fn check_contents(rt: &impl Abort, alloc: Global) {
+    run_on_new(rt, alloc, &NAMES, &LISTS, "lists");
+    run_on_new(rt, alloc, &BYTES, &FULL_FILE, "full file");
+    run_on_new(rt, alloc, &BYTES, &DISCARDED, "discarded");
+    run_on_new(rt, alloc, &[], &FULL_TREE, "full tree");
 }
 
 #[test]
 fn the_table(rt: HostRuntime) -> Result<(), Fail> {
-    run_started(&rt, rt.alloc(), &LOOKUPS_AND_MAKES, "lookups and makes")?;
-    run_started(&rt, rt.alloc(), &REMOVALS, "removals")?;
-    run_started(&rt, rt.alloc(), &LINKS, "links")?;
-    run_started(&rt, rt.alloc(), &REFUSED_RENAMES, "refused renames")?;
-    run_started(&rt, rt.alloc(), &RENAMES, "renames")?;
-    run_on_new(&rt, rt.alloc(), &NAMES, &LISTS, "lists")?;
-    run_on_new(&rt, rt.alloc(), &BYTES, &FULL_FILE, "full file")?;
-    run_on_new(&rt, rt.alloc(), &BYTES, &DISCARDED, "discarded")?;
-    run_on_new(&rt, rt.alloc(), &[], &FULL_TREE, "full tree")?;
+    check_names(&rt, rt.alloc());
+    check_renames(&rt, rt.alloc());
+    check_contents(&rt, rt.alloc());
     Ok(())
 }
