@@ -3,6 +3,7 @@
 use crate::tests::frames::unhex;
 use fuse_protocol::*;
 use fuse_replies::*;
+use std::alloc::{AllocError, Global};
 use std::process::Abort;
 use std::test::Fail;
 
@@ -27,51 +28,48 @@ const INIT: RequestHead = RequestHead {
     asked: 0,
 };
 
-/// What a session agreed on, by the two frames.
-fn agreed_in(rt: &impl Abort, request: &[u8], reply: &[u8]) -> Option<Agreed> {
-    let Ok(offered) = read_init(request) else {
-        return None;
-    };
-    assert!(rt; offered.minor == 45 && offered.max_readahead == 131_072);
-    assert!(rt; offered.flags == 0x05fd_73ff_fffb);
-    let Ok(reply) = read_reply(BEFORE_INIT, &INIT, reply) else {
-        return None;
-    };
-    let Answer::Init(taken) = reply.answer else {
-        return None;
-    };
-    match Agreed::of_init(&offered, &taken) {
-        Ok(agreed) => Some(agreed),
-        Err(_) => None,
+/// Whether this is what Linux 6.18 offers.
+fn is_offered(offered: &InitRequest) -> bool {
+    offered.minor == 45 && offered.max_readahead == 131_072 && offered.flags == 0x05fd_73ff_fffb
+}
+
+/// What was agreed by an offer and a reply.
+fn agreed_by(offered: &InitRequest, reply: &[u8]) -> Option<Agreed> {
+    let reply = read_reply(BEFORE_INIT, &INIT, reply).ok()?;
+    match reply.answer {
+        Answer::Init(taken) => Agreed::of_init(offered, &taken).ok(),
+        _ => None,
     }
+}
+
+/// What a session of Linux 6.18 agreed on, by its reply to INIT.
+fn agreed_in(alloc: Global, reply: &str) -> Result<Option<Agreed>, AllocError> {
+    let request = unhex(alloc, OFFERED)?;
+    let reply = unhex(alloc, reply)?;
+    Ok(match read_init(request.as_slice()) {
+        Ok(offered) if is_offered(&offered) => agreed_by(&offered, reply.as_slice()),
+        _ => None,
+    })
 }
 
 #[test]
 fn real_sessions_agree(rt: HostRuntime) -> Result<(), Fail> {
-    let alloc = rt.alloc();
-    let offered = unhex(alloc, OFFERED)?;
-    let libfuse = agreed_in(&rt, offered.as_slice(), unhex(alloc, LIBFUSE)?.as_slice());
-    assert!(rt;
-        libfuse
-            == Some(Agreed {
-                minor: 31,
-                has_long_setxattr: false,
-                has_extensions: false,
-                has_dot_names: true,
-                max_name: 4095,
-            })
-    );
-    let gocryptfs = agreed_in(&rt, offered.as_slice(), unhex(alloc, GOCRYPTFS)?.as_slice());
-    assert!(rt;
-        gocryptfs
-            == Some(Agreed {
-                minor: 28,
-                has_long_setxattr: false,
-                has_extensions: false,
-                has_dot_names: false,
-                max_name: 1024,
-            })
-    );
+    let libfuse = Agreed {
+        minor: 31,
+        has_long_setxattr: false,
+        has_extensions: false,
+        has_dot_names: true,
+        max_name: 4095,
+    };
+    let gocryptfs = Agreed {
+        minor: 28,
+        has_long_setxattr: false,
+        has_extensions: false,
+        has_dot_names: false,
+        max_name: 1024,
+    };
+    assert!(rt; agreed_in(rt.alloc(), LIBFUSE)? == Some(libfuse));
+    assert!(rt; agreed_in(rt.alloc(), GOCRYPTFS)? == Some(gocryptfs));
     Ok(())
 }
 

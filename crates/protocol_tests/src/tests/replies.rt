@@ -89,24 +89,25 @@ fn fault_of(
     })
 }
 
+/// Whether replies of these sizes have no fault, and one of a byte more or a byte less has another body.
+fn has_its_size(alloc: Global, sizes: Sizes) -> Result<bool, AllocError> {
+    let (code, asked, least, most) = sizes;
+    let of_least = fault_of(alloc, code, asked, least)?;
+    let of_most = fault_of(alloc, code, asked, most)?;
+    let of_more = fault_of(alloc, code, asked, most.saturating_add(1))?;
+    let of_less = fault_of(alloc, code, asked, least.saturating_sub(1))?;
+    Ok(
+        of_least.is_none()
+            && of_most.is_none()
+            && of_more == Some(ReplyFault::Body)
+            && (least == 0 || of_less == Some(ReplyFault::Body)),
+    )
+}
+
 #[test]
 fn each_reply_has_its_size(rt: HostRuntime) -> Result<(), Fail> {
-    let alloc = rt.alloc();
-    for (code, asked, least, most) in SIZES.iter() {
-        assert!(rt;
-            fault_of(alloc, *code, *asked, *least)?.is_none(),
-            "{code}: {least} bytes"
-        );
-        assert!(rt;
-            fault_of(alloc, *code, *asked, *most)?.is_none(),
-            "{code}: {most} bytes"
-        );
-        let more = fault_of(alloc, *code, *asked, most.saturating_add(1))?;
-        assert!(rt; more == Some(ReplyFault::Body), "{code}: a byte more");
-        if *least > 0 {
-            let less = fault_of(alloc, *code, *asked, least.saturating_sub(1))?;
-            assert!(rt; less == Some(ReplyFault::Body), "{code}: a byte less");
-        }
+    for sizes in SIZES.iter() {
+        assert!(rt; has_its_size(rt.alloc(), *sizes)?, "{}", sizes.0);
     }
     Ok(())
 }

@@ -128,57 +128,69 @@ fn fault_of_more(shape: Shape) -> Option<ShapeFault> {
     }
 }
 
-/// Tries a request, the same without its last byte, and with a byte behind it.
-fn tried(
-    rt: &impl Abort,
+/// What is wrong with a frame without its last byte.
+fn fault_without_last(
+    alloc: Global,
+    code: usize,
+    body: &[u8],
+) -> Result<Option<ShapeFault>, AllocError> {
+    match body.split_last() {
+        Some((_last, front)) => fault_of(alloc, code, front),
+        None => Ok(Some(ShapeFault::Short)),
+    }
+}
+
+/// What is wrong with a request, with the same without its last byte, and with a byte behind it.
+fn faults_of(
     alloc: Global,
     shape: Shape,
     name: usize,
     units: usize,
-) -> Result<(), AllocError> {
-    let code = shape.0;
+) -> Result<[Option<ShapeFault>; 3], AllocError> {
     let mut body = body_of(alloc, shape, name, units)?;
-    let whole = fault_of(alloc, code, body.as_slice())?;
-    assert!(rt;
-        whole.is_none(),
-        "{code}: names of {name} bytes, {units} units"
-    );
-    let less = match body.as_slice().split_last() {
-        Some((_last, front)) => fault_of(alloc, code, front)?,
-        None => Some(ShapeFault::Short),
-    };
-    assert!(rt;
-        less == Some(fault_of_less(shape, units)),
-        "{code}: a byte less, {units} units"
-    );
+    let whole = fault_of(alloc, shape.0, body.as_slice())?;
+    let less = fault_without_last(alloc, shape.0, body.as_slice())?;
     body.push(7)?;
-    let more = fault_of(alloc, code, body.as_slice())?;
-    assert!(rt;
-        more == fault_of_more(shape),
-        "{code}: a byte more, {units} units"
-    );
-    Ok(())
+    let more = fault_of(alloc, shape.0, body.as_slice())?;
+    Ok([whole, less, more])
+}
+
+/// Tries these.
+fn has_its_shape(
+    alloc: Global,
+    shape: Shape,
+    name: usize,
+    units: usize,
+) -> Result<bool, AllocError> {
+    let [whole, less, more] = faults_of(alloc, shape, name, units)?;
+    Ok(whole.is_none() && less == Some(fault_of_less(shape, units)) && more == fault_of_more(shape))
 }
 
 #[test]
 fn each_opcode_has_its_shape(rt: HostRuntime) -> Result<(), Fail> {
-    let alloc = rt.alloc();
     for shape in SHAPES.iter() {
-        tried(&rt, alloc, *shape, 1, 0)?;
-        tried(&rt, alloc, *shape, shape.3, 200)?;
+        let (code, _fixed, _names, longest, _behind) = *shape;
+        assert!(rt; has_its_shape(rt.alloc(), *shape, 1, 0)?, "{code}");
+        assert!(rt;
+            has_its_shape(rt.alloc(), *shape, longest, 200)?,
+            "{code}: the longest"
+        );
     }
     Ok(())
 }
 
-/// A name of a byte more than it may have.
+/// Whether a request of names of a byte more than they may have is refused for its name, if it has names.
+fn refuses_a_longer_name(alloc: Global, shape: Shape) -> Result<bool, AllocError> {
+    let (code, _fixed, names, longest, _behind) = shape;
+    let body = body_of(alloc, shape, longest.saturating_add(1), 0)?;
+    let fault = fault_of(alloc, code, body.as_slice())?;
+    Ok(names == 0 || fault == Some(ShapeFault::Name))
+}
+
 #[test]
 fn a_longer_name_is_refused(rt: HostRuntime) -> Result<(), Fail> {
-    let alloc = rt.alloc();
     for shape in SHAPES.iter() {
-        let (code, _fixed, names, longest, _behind) = *shape;
-        let body = body_of(alloc, *shape, longest.saturating_add(1), 0)?;
-        let fault = fault_of(alloc, code, body.as_slice())?;
-        assert!(rt; names == 0 || fault == Some(ShapeFault::Name), "{code}");
+        assert!(rt; refuses_a_longer_name(rt.alloc(), *shape)?, "{}", shape.0);
     }
     Ok(())
 }
