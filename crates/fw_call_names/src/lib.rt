@@ -8,8 +8,6 @@ mod numbered;
 mod plain;
 mod put;
 mod split;
-#[cfg(test)]
-mod tests;
 
 pub use lines::NamedLines;
 pub use plain::plain_script;

@@ -9,8 +9,6 @@ mod parts;
 mod put;
 mod rest;
 mod script;
-#[cfg(test)]
-mod tests;
 mod walk;
 
 pub use lines::ExpandedLines;

@@ -9,8 +9,6 @@ mod key;
 mod lines;
 mod object;
 mod string;
-#[cfg(test)]
-mod tests;
 mod text;
 
 pub use lines::JsonLines;

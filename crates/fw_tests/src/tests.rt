@@ -3,12 +3,15 @@
 //! call of `drop`: at the end of a scope each way out would prove the drop of all its parts anew.
 
 mod after_loss;
+mod call_names;
 mod carried;
 mod cutting;
 mod drawn;
 mod drive;
+mod expanded;
 mod frames;
 mod growths;
+mod json;
 mod lines;
 mod machine;
 mod over_links;

@@ -2,9 +2,9 @@
 
 ghost use Rattle.std.specs.Prelude.{◌≡◌, Some};
 
-use crate::{ExpandedLines, expandable_script};
 use fuse_spec::Dentry;
 use fw_drive::{Form, InputLines, KernelView, LineSource, Standing};
+use fw_expand::{ExpandedLines, expandable_script};
 use std::alloc::{AllocError, Global};
 use std::test::Fail;
 

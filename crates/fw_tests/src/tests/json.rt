@@ -1,6 +1,6 @@
-//! Lines and their objects.
+//! What `drive` prints, as JSON objects.
 
-use crate::JsonLines;
+use fw_json::JsonLines;
 use std::alloc::Global;
 use std::io::Write;
 use std::test::Fail;

@@ -1,7 +1,7 @@
 //! Lines with names, and the lines that stand for them.
 
-use crate::{NamedLines, plain_script};
 use fuse_spec::Dentry;
+use fw_call_names::{NamedLines, plain_script};
 use fw_drive::{InputLines, KernelView, LineSource, Standing};
 use std::alloc::{AllocError, Global};
 use std::test::Fail;
