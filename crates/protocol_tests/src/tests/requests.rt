@@ -155,7 +155,7 @@ fn faults_of(
     Ok([whole, less, more])
 }
 
-/// Tries these.
+/// Whether a request of its shape has no fault, and one of a byte less or a byte more the fault that it must.
 fn has_its_shape(
     alloc: Global,
     shape: Shape,
