@@ -14,7 +14,7 @@ ghost use Rattle.fk_nodes.specs.ListedFiles.{pairs_left_in};
 use crate::kernel::KernelOf;
 use crate::queue_room::reserve_forgets;
 use fk_lookup_count::CountTable;
-use fk_nodes::{count_and_bind, forget_stale, names_of_direntpluses};
+use fk_nodes::{count_listed, names_of_direntpluses, take_listed};
 use fk_queues::QueueTable;
 use fk_syscalls::Answer;
 use fk_wire::RecordsPlus;
@@ -46,10 +46,10 @@ impl<Q: QueueTable<Purpose>, C: CountTable<Heap = Q::Heap>> KernelOf<Q, C> {
         // A forget of each name that is stale, and of each node that is new.
         reserve_forgets(&mut self.queues, &self.nodes, 2 * pairs.count_left())?;
         let (names, nodes) = (&mut self.names, &mut self.nodes);
-        let Ok(()) = count_and_bind(names, nodes, directory, self.clock, pairs) else {
+        let Ok(()) = count_listed(names, nodes, directory, pairs) else {
             return Err(Refusal::NoMemory);
         };
-        forget_stale(&mut self.queues, &self.nodes, pairs);
+        take_listed(names, &mut self.queues, nodes, directory, self.clock, pairs);
         let _kept = self.queues.answer(unique);
         self.finish(call, Answer::Listing(listed));
         Ok(())

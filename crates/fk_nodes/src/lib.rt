@@ -10,5 +10,5 @@ mod lookups;
 
 pub use counted_nodes::CountedNodes;
 pub use entry_use::EntryUse;
-pub use listed::{count_and_bind, forget_stale};
+pub use listed::{count_listed, take_listed};
 pub use listed_names::{names_of_direntpluses, names_of_dirents};

@@ -59,9 +59,11 @@ fn reserve_listed<A: Allocator + Copy>(
     Ok(())
 }
 
-/// A name leads to the file that it gives, if its entry can be used.
-fn bind_name<A: Allocator + Copy, C: CountTable>(
+/// A name leads to the file that it gives, if its entry can be used. Where it gives a node under another generation than it
+/// is counted, a forget of one lookup is queued.
+fn take_name<A: Allocator + Copy, Q: QueueTable<Purpose>, C: CountTable>(
     names: &mut Bindings<A>,
+    queues: &mut Q,
     nodes: &CountedNodes<C>,
     directory: u64,
     clock: u64,
@@ -70,49 +72,12 @@ fn bind_name<A: Allocator + Copy, C: CountTable>(
     requires room { HasNameRoom names.old directory (pair_in (direntplus_content pair.now))
         (listed_by (pair_in (direntplus_content pair.now))) }
     requires clock { clock + max_validity < 2 ^ 64 }
+    requires forgets { 0 < (Q.room queues.old).forgets }
     ensures names { names.new.names ≡ name_listed clock directory names.old.names
         (pair_with (λ (g : NodeEntry). g.nodeid) (judged_in nodes.now (pair_in (direntplus_content pair.now))))
         (listed_by (pair_with (λ (g : NodeEntry). g.nodeid)
         (judged_in nodes.now (pair_in (direntplus_content pair.now))))) }
     ensures kept { (other : Place) → HasRoom names.old other → HasRoom names.new other }
-{
-    let Some(entry) = entry_of(pair) else {
-        return;
-    };
-    match nodes.use_of(&entry) {
-        EntryUse::Usable => {
-            let until = clock + valid_ms(pair);
-            names.put(directory, pair.dirent.name, Some(entry.nodeid), until);
-        }
-        EntryUse::InvalidNodeid => {}
-        EntryUse::Stale => {}
-    }
-}
-
-/// Caches the names of a list that name a file of which the entry can be used. Takes no memory.
-fn bind_listed<A: Allocator + Copy, C: CountTable>(
-    names: &mut Bindings<A>,
-    nodes: &CountedNodes<C>,
-    directory: u64,
-    clock: u64,
-    pairs: RecordsPlus<'_>,
-)
-    requires room { HaveNameRoom names.old directory (pairs_left_in pairs) }
-    requires clock { clock + max_validity < 2 ^ 64 }
-    ensures { names.new.names ≡ names_judged clock directory nodes.now names.old.names (pairs_left_in pairs.entry) }
-{
-    for pair in pairs {
-        bind_name(names, nodes, directory, clock, &pair);
-    }
-}
-
-/// Queues a forget of one lookup of the node that a name gives under another generation than it is counted.
-fn forget_one<Q: QueueTable<Purpose>, C: CountTable>(
-    queues: &mut Q,
-    nodes: &CountedNodes<C>,
-    pair: &DirentPlus<'_>,
-)
-    requires { 0 < (Q.room queues.old).forgets }
     ensures state { Q.state queues.new ≡ each_forgotten (Q.state queues.old)
         (stale_in (use_of_listed nodes.now (listed_by (pair_in (direntplus_content pair.now))))) }
     ensures requests { (Q.room queues.old).requests ≤ (Q.room queues.new).requests }
@@ -122,53 +87,57 @@ fn forget_one<Q: QueueTable<Purpose>, C: CountTable>(
         return;
     };
     match nodes.use_of(&entry) {
+        EntryUse::Usable => {
+            let until = clock + valid_ms(pair);
+            names.put(directory, pair.dirent.name, Some(entry.nodeid), until);
+        }
         EntryUse::Stale => queues.forget(entry.nodeid, 1),
         EntryUse::InvalidNodeid => {}
-        EntryUse::Usable => {}
     }
 }
 
-/// Queues a forget of one lookup of each node that a name of a list gives under another generation than it is counted
-/// (this project's rule). Takes no memory.
-pub fn forget_stale<Q: QueueTable<Purpose>, C: CountTable>(
+/// Caches the names of a list that name a file of which the entry can be used, from this time in milliseconds on, and queues
+/// a forget of one lookup of each node that a name gives under another generation than it is counted (this project's rule).
+/// Takes no memory.
+pub fn take_listed<A: Allocator + Copy, Q: QueueTable<Purpose>, C: CountTable>(
+    names: &mut Bindings<A>,
     queues: &mut Q,
     nodes: &CountedNodes<C>,
+    directory: u64,
+    clock: u64,
     pairs: RecordsPlus<'_>,
 )
-    requires { length (pairs_left_in pairs) ≤ (Q.room queues.old).forgets }
+    requires room { HaveNameRoom names.old directory (pairs_left_in pairs) }
+    requires clock { clock + max_validity < 2 ^ 64 }
+    requires forgets { length (pairs_left_in pairs) ≤ (Q.room queues.old).forgets }
+    ensures names { names.new.names ≡ names_judged clock directory nodes.now names.old.names (pairs_left_in pairs.entry) }
     ensures state { Q.state queues.new ≡ each_forgotten (Q.state queues.old)
         (stale_by nodes.now (pairs_left_in pairs.entry)) }
     ensures requests { (Q.room queues.old).requests ≤ (Q.room queues.new).requests }
     ensures forgets { (Q.room queues.old).forgets ≤ (Q.room queues.new).forgets + length (pairs_left_in pairs.entry) }
 {
     for pair in pairs {
-        forget_one(queues, nodes, &pair);
+        take_name(names, queues, nodes, directory, clock, &pair);
     }
 }
 
-/// Counts the names of a list that give files, and caches those of which the entry can be used, from this time
-/// in milliseconds on.
+/// Makes room for the names of a list that give files, and counts their nodes.
 ///
 /// # Errors
 ///
 /// Out of memory. Nothing changed.
-pub fn count_and_bind<A: Allocator + Copy, C: CountTable>(
+pub fn count_listed<A: Allocator + Copy, C: CountTable>(
     names: &mut Bindings<A>,
     nodes: &mut CountedNodes<C>,
     directory: u64,
-    clock: u64,
     pairs: RecordsPlus<'_>,
 ) -> Result<(), AllocError>
-    requires clock { clock + max_validity < 2 ^ 64 }
-    requires below { HaveCountsInRange (looked_up_from nodes.old (pairs_left_in pairs)) }
-    ensures err_names { OnErr result (names.new.names ≡ names.old.names) }
-    ensures err_nodes { OnErr result (nodes.new ≡ nodes.old) }
-    ensures nodes { OnOk result (nodes.new ≡ looked_up_from nodes.old (pairs_left_in pairs.entry)) }
-    ensures names { OnOk result (names.new.names ≡ names_judged clock directory
-        (looked_up_from nodes.old (pairs_left_in pairs.entry)) names.old.names (pairs_left_in pairs.entry)) }
+    requires { HaveCountsInRange (looked_up_from nodes.old (pairs_left_in pairs)) }
+    ensures names { names.new.names ≡ names.old.names }
+    ensures room { OnOk result (HaveNameRoom names.new directory (pairs_left_in pairs.entry)) }
+    ensures ok { OnOk result (nodes.new ≡ looked_up_from nodes.old (pairs_left_in pairs.entry)) }
+    ensures err { OnErr result (nodes.new ≡ nodes.old) }
 {
     reserve_listed(names, directory, pairs)?;
-    nodes.count_listed(pairs)?;
-    bind_listed(names, nodes, directory, clock, pairs);
-    Ok(())
+    nodes.count_listed(pairs)
 }

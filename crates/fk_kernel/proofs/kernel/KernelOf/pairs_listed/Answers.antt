@@ -23,8 +23,8 @@ use Rattle.fuse_spec.specs.Kernel.Queues.{QueueState}
 use Rattle.fk_kernel.proofs.Served.{same_requests, served_less, fewer_answered, none_answered}
 use Rattle.fk_kernel.proofs.kernel.KernelOf.pairs_listed.Goals as goal
 
-pub count_and_bind-requires-clause-below : goal.count_and_bind-requires-clause-below
-count_and_bind-requires-clause-below g c = rw (← c.self.view_is) at
+pub count_listed-requires : goal.count_listed-requires
+count_listed-requires g c = rw (← c.self.view_is) at
     (pairs_below c.args.self.now.nodes (pairs_left_in c.args.pairs) c.requires.counts)
 
 pub invariant_of-self-2 : goal.invariant_of-self-2
@@ -35,12 +35,12 @@ invariant_of-self-2 g c =
     let below = rw (← c.self.view_is) at (pairs_below c.args.self.now.nodes pairs c.requires.counts) in
     let room = room_to_list (length k.nodes) (length (pluses_in c.args.pairs)) (length pairs) c.count_left.result _ _
     c.answer-kept.new.self.room.forgets c.count_left.ensures.count (length-map (pluses_in c.args.pairs) pair_in)
-    c.in_ok-reserve_forgets.ensures.room c.forget_stale.ensures.forgets c.answer-kept.ensures.room.forgets in
+    c.in_ok-reserve_forgets.ensures.room c.take_listed.ensures.forgets c.answer-kept.ensures.room.forgets in
     rw (
       c.answer-kept.ensures.state,
-      c.forget_stale.ensures.state,
+      c.take_listed.ensures.state,
       c.reserve_forgets.ensures.state,
-      c.in-Ok-count_and_bind.ensures.nodes,
+      c.in-Ok-count_listed.ensures.ok,
     )
     (record {
       numbers = old.numbers;
@@ -48,7 +48,7 @@ invariant_of-self-2 g c =
       sorted = old.sorted;
       files = old.files;
       releases = still_room (still_room (still_room old.releases c.reserve_forgets.ensures.kept.requests)
-          c.forget_stale.ensures.requests) c.answer-kept.ensures.room.requests;
+          c.take_listed.ensures.requests) c.answer-kept.ensures.room.requests;
       nodes = listed_counted k.nodes c.answer-kept.new.self.room.forgets pairs below room;
       served = served_less (served_less old.served (same_requests refl))
           (fewer_answered (each_forgotten k.queues.queues (stale_by (looked_up_from k.nodes pairs) pairs)) c.args.unique);
@@ -63,9 +63,9 @@ finish-requires-clause-ended g c =
     let waits : waiting queued c.args.unique ≡ Some (Call c.args.call) = rw (← c.self.view_is) at c.requires.waits in
     rw (
       c.answer-kept.ensures.state,
-      c.forget_stale.ensures.state,
+      c.take_listed.ensures.state,
       c.reserve_forgets.ensures.state,
-      c.in-Ok-count_and_bind.ensures.nodes,
+      c.in-Ok-count_listed.ensures.ok,
     )
     (none_answered (served_less c.self.invariant.served (same_requests {t = queued} refl)) c.args.unique c.args.call
     waits)
@@ -91,10 +91,11 @@ returns-clause-ok g c =
     rw (
       c.finish.ensures,
       c.answer-kept.ensures.state,
-      c.forget_stale.ensures.state,
+      c.take_listed.ensures.state,
       c.reserve_forgets.ensures.state,
-      c.in-Ok-count_and_bind.ensures.names,
-      c.in-Ok-count_and_bind.ensures.nodes,
+      c.take_listed.ensures.names,
+      c.count_listed.ensures.names,
+      c.in-Ok-count_listed.ensures.ok,
       answered_is (each_forgotten s stale) c.args.unique waits,
       directory,
       c.in-Ok.ensures,
