@@ -1,5 +1,7 @@
 -- Why a command that reads lines stops before their end: its line on standard error, and its exit status.
 use Rattle.std.specs.Prelude.{ℕ, List, ◌++◌, codes, decimal}
+use Rattle.fuse_text.specs.declared.lines.LineError.{LineError}
+use Rattle.fuse_text.specs.declared.lines.LineError.TheVariants as line_error
 use Rattle.fuse_text.specs.declared.stop.Stop.{Stop}
 use Rattle.fuse_text.specs.declared.stop.Stop.TheVariants as stop
 
@@ -9,6 +11,11 @@ status_of stop.CannotRead = 1
 status_of (stop.BadLine number fault) = 1
 status_of stop.NoMemory = 3
 status_of stop.OutputRefused = 5
+
+-- that there is no next line
+abbrev pub stopped_by : {F : Type 0} → LineError → Stop F
+stopped_by line_error.CannotRead = stop.CannotRead
+stopped_by line_error.NoMemory = stop.NoMemory
 
 -- the lines, without their line feeds
 abbrev pub unreadable : (name : List ℕ) → List ℕ

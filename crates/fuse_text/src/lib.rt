@@ -15,7 +15,7 @@ mod word;
 pub use hex_text::{
     HexFault, is_hex, is_hex_or_none, read_hex, read_hex_or_none, write_hex, write_hex_or_none,
 };
-pub use lines::{LineError, next_line};
+pub use lines::{LineError, next_line, next_line_if_any};
 pub use node_text::{write_node, write_nodes};
 pub use number::read_number;
 pub use output::{OutputRefused, write_number, write_text};

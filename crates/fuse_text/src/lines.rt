@@ -1,6 +1,7 @@
 //! The lines of an input, as they are read.
 
-ghost use Rattle.std.specs.Prelude.{◌≡◌, ◌≢◌, ◌++◌, ◌∷◌, [], ℕ, List, IfOk, IfSome, MatchBool};
+ghost use Rattle.std.specs.Prelude.{◌≡◌, ◌≢◌, ◌++◌, ◌∷◌, ◌||◌, ◌==◌, [], ℕ, Bool, List, IfOk, IfSome, MatchBool, not};
+ghost use Rattle.std.specs.Vec.{vec_len};
 ghost use Rattle.fuse_text.specs.Lines.{IsTaken};
 
 use std::alloc::Allocator;
@@ -47,4 +48,21 @@ pub fn next_line<A: Allocator, R: BufRead>(
         Err(error) if error.kind() == ErrorKind::OutOfMemory => Err(LineError::NoMemory),
         Err(_) => Err(LineError::CannotRead),
     }
+}
+
+/// Reads the next line so, and says whether there was one: none follows the last line feed.
+///
+/// # Errors
+///
+/// `CannotRead`, or `NoMemory`.
+pub fn next_line_if_any<A: Allocator, R: BufRead>(
+    input: &mut R,
+    line: &mut Vec<u8, A>,
+) -> Result<bool, LineError>
+    ensures { IfOk result (λ is_line. IfSome (R.remaining input.old) (λ bytes. (is_more : Bool)
+        × IsTaken bytes is_more line.new.items (R.remaining input.new)
+        × (is_line ≡ (is_more || not (vec_len line.new == 0))))) }
+{
+    let is_more = next_line(input, line)?;
+    Ok(is_more || !line.is_empty())
 }

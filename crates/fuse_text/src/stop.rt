@@ -5,6 +5,7 @@ ghost use Rattle.std.specs.Io.KnownBytes.{Appends};
 ghost use Rattle.fuse_text.specs.Outputs.{AppendsSome};
 ghost use Rattle.fuse_text.specs.Stops.{bad_line, line_head, status_of, stop_line, unreadable};
 
+use crate::lines::LineError;
 use crate::output::{OutputRefused, write_number, write_text};
 use std::io::Write;
 
@@ -41,6 +42,20 @@ pub enum Stop<F> {
     BadLine { number: u64, fault: F },
     NoMemory,
     OutputRefused,
+}
+
+impl<F> From<LineError> for Stop<F> {
+    ghost use Rattle.std.specs.Prelude.{◌≡◌};
+    ghost use Rattle.fuse_text.specs.Stops.{stopped_by};
+
+    ghost from_gives = { λ error stop. stop ≡ stopped_by error };
+
+    fn from(error: LineError) -> Stop<F> {
+        match error {
+            LineError::CannotRead => Stop::CannotRead,
+            LineError::NoMemory => Stop::NoMemory,
+        }
+    }
 }
 
 /// Writes that an input cannot be read.

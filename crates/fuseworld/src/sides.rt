@@ -3,7 +3,7 @@
 ghost use Rattle.std.specs.Prelude.{◌∷◌, [], Contains};
 
 use crate::output::standard_output;
-use fuse_text::{cannot_read, no_memory};
+use fuse_text::{LineError, cannot_read, no_memory};
 use fw_sides::{End, run_kernel, run_server};
 use fw_tasks::SideTask;
 use std::io::{BufReader, BufWriter};
@@ -13,8 +13,8 @@ fn status_at(rt: &HostRuntime, end: End) -> u8
     ensures { Contains (1 ∷ 3 ∷ 5 ∷ []) result }
 {
     match end {
-        End::CannotRead => cannot_read("-", &mut rt.stderr()),
-        End::NoMemory => no_memory(&mut rt.stderr()),
+        End::Input(LineError::CannotRead) => cannot_read("-", &mut rt.stderr()),
+        End::Input(LineError::NoMemory) => no_memory(&mut rt.stderr()),
         End::OutputRefused => 5,
     }
 }

@@ -4,7 +4,7 @@ ghost use Rattle.std.specs.Prelude.{◌≡◌, ◌⊎◌, IfErr, IfOk, IfSome};
 ghost use Rattle.fuse_text.specs.Lines.{IsTaken};
 
 use fuse_capture::CaptureFault;
-use fuse_text::{LineError, Stop};
+use fuse_text::Stop;
 use std::alloc::Allocator;
 use std::io::BufRead;
 
@@ -22,9 +22,5 @@ pub(crate) fn next_line<A: Allocator, R: BufRead>(
         (λ bytes. IsTaken bytes is_more line.new.items (R.remaining input.new))) }
     ensures refused { IfErr result (λ stop. (stop ≡ Stop.CannotRead) ⊎ (stop ≡ Stop.NoMemory)) }
 {
-    match fuse_text::next_line(input, line) {
-        Ok(is_more) => Ok(is_more),
-        Err(LineError::NoMemory) => Err(Stop::NoMemory),
-        Err(LineError::CannotRead) => Err(Stop::CannotRead),
-    }
+    Ok(fuse_text::next_line(input, line)?)
 }

@@ -4,7 +4,7 @@ ghost use Rattle.std.specs.Prelude.{◌≡◌, ◌∷◌, [], Contains, IfErr};
 ghost use Rattle.fuse_text.specs.Stops.{status_of};
 
 use fuse_capture::CaptureFault;
-use fuse_text::{LineError, Stop};
+use fuse_text::{Stop, next_line_if_any};
 use std::alloc::Allocator;
 use std::io::BufRead;
 
@@ -20,9 +20,5 @@ pub fn next_line<A: Allocator, R: BufRead>(
 ) -> Result<bool, Stop<CaptureFault>>
     ensures { IfErr result (λ stop. Contains (1 ∷ 3 ∷ []) (status_of stop)) }
 {
-    match fuse_text::next_line(input, line) {
-        Ok(is_more) => Ok(is_more || !line.is_empty()),
-        Err(LineError::NoMemory) => Err(Stop::NoMemory),
-        Err(LineError::CannotRead) => Err(Stop::CannotRead),
-    }
+    Ok(next_line_if_any(input, line)?)
 }

@@ -8,7 +8,7 @@ use Rattle.fuse_text.specs.Outputs.{AppendsSome}
 use Rattle.fw_script.specs.Running.{HasPrinted, InputEnds, IsEither, JudgingEnds, LinesEnd, OverEnds, ReadingEnds, RunEnds, SessionEnds, UnreadEnds}
 use Rattle.fw_script.specs.Scripts.{FirstFaultIs, IsRunOf, IsRunOver, Prints, PrintsFirst, PrintsSome, session_machine, world_machine}
 use Rattle.fuse_text.specs.Lines.{lines_of}
-use Rattle.fuse_text.specs.Stops.{status_of, stop_line, unreadable}
+use Rattle.fuse_text.specs.Stops.{status_of, stop_line}
 use Rattle.fw_script.specs.Stops.{SaysFault, line_fault_words}
 use Rattle.fuse_text.specs.declared.stop.Stop.{Stop}
 use Rattle.fw_script.specs.declared.line.LineFault.{LineFault}

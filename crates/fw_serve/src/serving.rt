@@ -9,7 +9,7 @@ use fs_serve::serve;
 use fs_server::ServerOf;
 use fuse_device::{Device, DeviceEnd};
 use fuse_spec::{Minor, Validity};
-use fuse_text::{write_nodes, write_text};
+use fuse_text::{no_memory, write_nodes, write_text};
 use served_sessions::served_is_unaccused;
 use std::alloc::{AllocError, Allocator};
 use std::io::Write;
@@ -132,9 +132,6 @@ pub fn serve_device<A: Allocator + Copy, D: Device, F: Write>(
 {
     match serve_mount::<NodeTable<A>, D, F>(alloc, mount, device, faults) {
         Ok(status) => status,
-        Err(_) => {
-            let _ = writeln!(faults, "no memory");
-            3
-        }
+        Err(_) => no_memory(faults),
     }
 }

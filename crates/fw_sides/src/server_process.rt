@@ -16,7 +16,7 @@ use crate::server_text::{print_server_refused, print_server_step};
 use crate::side::{Side, do_lines};
 use fs_server::{NodeStore, ServerEvent, ServerOf};
 use fuse_spec::Refusal;
-use fuse_text::{OutputRefused, read_hex_or_none};
+use fuse_text::{LineError, OutputRefused, read_hex_or_none};
 use fw_script::is_passed_over;
 use fw_world::{Maps, Tables};
 use std::alloc::Allocator;
@@ -106,7 +106,7 @@ fn run_new<T: Tables, R: BufRead, W: Write>(
     ensures { OnOk result ((lines : List (List ℕ)) × (last : ServerState) × DoLines (DoesServerLine T.Heap) first_server lines last) }
 {
     let Ok(mut server) = ServerOf::<T::Nodes>::new(alloc) else {
-        return Err(End::NoMemory);
+        return Err(End::Input(LineError::NoMemory));
     };
     let ended = do_lines(&mut server, alloc, form, input, out);
     server.end();

@@ -4,8 +4,8 @@ ghost use Rattle.std.specs.Prelude.{◌≡◌, ℕ, List, IfOk, MatchBool, OnOk}
 ghost use Rattle.fw_sides.specs.Lines.{DoLines};
 
 use crate::form::Form;
-use crate::input::{End, next_line};
-use fuse_text::OutputRefused;
+use crate::input::End;
+use fuse_text::{OutputRefused, next_line_if_any};
 use std::alloc::Allocator;
 use std::io::{BufRead, Write};
 
@@ -52,7 +52,7 @@ fn do_next<S: Side, R: BufRead, W: Write>(
     ensures { IfOk result (λ is_line. MatchBool is_line
         ((text : List ℕ) × S.does (S.state side.old) text (S.state side.new)) (side.new ≡ side.old)) }
 {
-    if !next_line(input, &mut room.line)? {
+    if !next_line_if_any(input, &mut room.line)? {
         return Ok(false);
     }
     let done = side.do_line(alloc, &mut room.bytes, room.line.as_slice(), form, out);
