@@ -1,5 +1,5 @@
 -- No request of a run but INIT comes before INIT's reply is accepted.
-use Rattle.std.proofs.Common.{◌≡◌, ℕ, Bool, true, false, ◌||◌, List, [], ◌∷◌, ◌++◌, nat_eq, refl, ap, sym, subst, subst₂, ◌∙◌, arith}
+use Rattle.std.proofs.Common.{inl, ◌%◌, ◌≡◌, ℕ, Bool, true, false, ◌||◌, List, [], ◌∷◌, ◌++◌, nat_eq, refl, ap, sym, subst, subst₂, ◌∙◌, arith}
 use Rattle.std.specs.Borrow.{Bor}
 use Rattle.std.specs.List.{list_all, list_any}
 use Rattle.std.proofs.lemmas.Bool.{false≢true}
@@ -11,7 +11,6 @@ use Rattle.fuse_spec.specs.Kernel.Messages.{Request}
 use Rattle.fuse_frames.specs.RequestTies.{SaysRequest}
 use Rattle.fk_drive.specs.Driving.{Driven, DriveStep, Drives, ReleasesBehind, SendsFrame, Turn, first_driven, idle, picked, alone, reads, sends, opens, is_given, is_not_known, is_refused, is_garbled, sends_opened, answers, waits, sets_aside, writes, is_released, ends, releases, releases_none, with_result, at_end, nothing, next as behind}
 use Rattle.fk_drive.specs.KernelSteps.{mounts}
-use Rattle.fk_drive_theorem.specs.TakenOnce.{request_number}
 use Rattle.fk_drive_theorem.proofs.RunsTally.{run_tallied}
 use Rattle.fk_drive_theorem.proofs.WrittenCounted.{EmptyUnlessLive}
 use Rattle.fuse_sessions.specs.declared.act.Act.{Act}
@@ -109,9 +108,10 @@ accepted_agrees : (k : Known) (s : Session) (was : Unagreed k s) (b : Bor (List 
     → list_any is_agreement acts ≡ true
 accepted_agrees k s was b t acts later are is agrees =
     let init : IsInitReply b.now = agreeing_init b.now agrees in
+    let told = is was.unjudged (init.whole, inl init.succeeds) (ap (λ (n : ℕ). n % 2) init.under) in
     written_agrees k b.now init s acts later
-    (λ none. (is was.unjudged).1 (ap (λ (n : ℕ). waits_in s (request_number n)) init.under ∙ none)) (waits_init s was.asks 2)
-    (subst (λ (x : Taken). IsWritten k s b.now x acts later) (is was.unjudged).0
+    (λ none. told.1 (ap (waits_in s) init.under ∙ none)) (waits_init s was.asks 2)
+    (subst (λ (x : Taken). IsWritten k s b.now x acts later) told.0
     (judged_acts k s (said.Written b t) acts later was.unjudged are))
 
 -- ---- a step

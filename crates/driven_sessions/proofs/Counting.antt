@@ -48,12 +48,13 @@ use Rattle.fuse_sessions.specs.Counts.{most_count}
 use Rattle.fuse_sessions.specs.Frames.{AreActs, AreReadActs, AreRequestActs, Lead}
 use Rattle.fuse_sessions.specs.Sessions.{Session}
 use Rattle.driven_sessions.specs.Driven.{HaveAgreed}
-use Rattle.driven_sessions.specs.Taken.{AreTaken, IsTaken, Outcome, all_aside, first_written, outcomes_after, waiting, written}
+use Rattle.driven_sessions.specs.Taken.{AreTaken, HasHeader, IsTaken, Outcome, all_aside, first_written, outcomes_after, waiting, written}
 use Rattle.driven_sessions.specs.Transfers.{AreSaid}
 use Rattle.driven_sessions.proofs.Doing.{request_does}
 use Rattle.driven_sessions.proofs.Frames.{IsOwn, SaysForgets, frame_forgets, own_head}
 use Rattle.driven_sessions.proofs.Gives.{gives}
 use Rattle.driven_sessions.proofs.Heard.{Adds, heard_adds, judged_before}
+use Rattle.driven_sessions.proofs.InitReplies.{says_headed}
 use Rattle.driven_sessions.proofs.Lookups.{error_times, error_word, interrupt_times, short_times, taken_times}
 use Rattle.driven_sessions.proofs.Never.{by_judged, ended_calm, written_is_calm}
 use Rattle.driven_sessions.proofs.Outcomes.{GoOn, left_of}
@@ -223,8 +224,8 @@ module _ (id : ℕ) (low : 2 ≤ id) (count : ℕ) (t : Tally) (all now : List O
     (empty : EmptyUnlessLive old.kernel) (within : old.kernel.queues.next ≤ 2 ^ 62) (never : t.forgotten ≤ t.gathered) where
   step_adds : (log : List Transfer) (new : Driven) (step : DriveStep old log new) → count + mounts_at step ≤ 1 → (frame : List ℕ)
       (o : Outcome) (g : ℕ) → Adds id count old.kernel frame o g → Adds id (count + mounts_at step) new.kernel frame o g
-  step_adds log new step few frame o g adds accepted even less =
-      let was = adds accepted even less in
+  step_adds log new step few frame o g adds accepted headed even less =
+      let was = adds accepted headed even less in
       let some = was.0 in (
         omega (arith, some),
         was.1,
@@ -285,8 +286,8 @@ module _ (id : ℕ) (low : 2 ≤ id) (count : ℕ) (t : Tally) (all now : List O
       judged_before (said.Written b u ∷ []) k s later whole (acts, known, are, leads) judged in
       record {
         owed = counts.owed + gives id acts;
-        owes = map_owes (Adds id count old.kernel) (Adds id (count + 0) old.kernel) (λ f o g adds accepted even less.
-            let was = adds accepted even less in let some = was.0 in (omega (arith, some), was.1, was.2, was.3))
+        owes = map_owes (Adds id count old.kernel) (Adds id (count + 0) old.kernel) (λ f o g adds accepted headed even less.
+            let was = adds accepted headed even less in let some = was.0 in (omega (arith, some), was.1, was.2, was.3))
             (old.waiting ++ frame ∷ []) (now ++ waiting ∷ []) all (counts.owed + gives id acts)
             (last_owes (Adds id count old.kernel) old.waiting frame now all counts.owed (gives id acts) counts.owes goes
             (λ o more at. heard_adds id low count old k s tells agreed.0 first frame b is.0 u acts known are o
@@ -328,7 +329,7 @@ module _ (id : ℕ) (low : 2 ≤ id) (count : ℕ) (t : Tally) (all now : List O
           even : head_unique handed % 2 ≡ 0 → awaits old.kernel (head_unique handed) ≡ reply_to p → times_named id wire ≤ g
           even is at =
               let found = awaited_low old.kernel one empty within (head_unique handed) p at in
-              let told = adds refl (ap (λ (n : ℕ). n % 2) (sym bytes_same) ∙ is)
+              let told = adds refl (subst HasHeader same (says_headed handed p wire says)) (ap (λ (n : ℕ). n % 2) (sym bytes_same) ∙ is)
               (subst (λ (n : ℕ). n < 2 ^ 62) bytes_same found.0) in
               let opcode : p ≡ told.1 = (told.2 found.1).1 p (ap (awaits old.kernel) (sym bytes_same) ∙ at) in
               told.3 wire (subst (λ (l : List ℕ). Says told.1 l wire) same

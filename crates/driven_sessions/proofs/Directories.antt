@@ -1,5 +1,5 @@
 -- An open directory is of a node that is there, until its RELEASEDIR was sent.
-use Rattle.std.proofs.Common.{◌≡◌, ◌≢◌, ◌⊎◌, inl, inr, ℕ, ℤ, ◌+◌, ◌-◌, ◌≤◌, ◌<◌, ◌^◌, true, false, true≢false, List, [], ◌∷◌, ◌++◌, Option, Some, None, take, drop, length, length-drop, replicate, set, refl, ap, sym, subst, ◌∙◌, arith, All}
+use Rattle.std.proofs.Common.{◌≡◌, ◌≢◌, ◌⊎◌, inl, inr, ℕ, ℤ, ◌+◌, ◌-◌, ◌≤◌, ◌<◌, ◌^◌, false, true≢false, List, [], ◌∷◌, ◌++◌, Option, Some, None, take, drop, length, length-drop, replicate, set, refl, ap, sym, subst, ◌∙◌, arith, All}
 use Rattle.std.specs.Int.{cast_signed, w32}
 use Rattle.std.proofs.lemmas.Int.{ints}
 use Rattle.std.proofs.lemmas.List.{drop-append-le, drop-set-add, drop-set-lt, take-append-le, take-set-le}

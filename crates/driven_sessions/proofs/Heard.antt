@@ -1,5 +1,5 @@
 -- An accepted frame of a server, in a session in which its request waits, gives what the codec reads in it.
-use Rattle.std.proofs.Common.{◌≡◌, inl, inr, ℕ, ◌-◌, ◌≤◌, ◌<◌, ◌%◌, ◌^◌, ◌==◌, Bool, true, false, cond, List, [], ◌∷◌, ◌++◌, length, Option, Some, None, nat_eq, refl, ap, sym, subst, ◌∙◌, arith}
+use Rattle.std.proofs.Common.{◌≡◌, inl, inr, ℕ, ◌≤◌, ◌<◌, ◌%◌, ◌^◌, ◌==◌, Bool, true, false, List, [], ◌∷◌, ◌++◌, length, Option, Some, None, nat_eq, refl, ap, sym, subst, ◌∙◌, arith}
 use Rattle.std.specs.Prelude.{◌≢◌, MatchBool, MatchOption}
 use Rattle.std.specs.Borrow.{Bor}
 use Rattle.std.proofs.lemmas.Bool.{false≢true}
@@ -12,7 +12,6 @@ use Rattle.fuse_spec.specs.Kernel.Kernel.{Kernel}
 use Rattle.fuse_spec.specs.Kernel.Messages.{WireReply}
 use Rattle.fuse_spec.specs.declared.WriteResult.TheVariants.{Accepted}
 use Rattle.fk_kernel.specs.AwaitedReplies.{Says, head_unique}
-use Rattle.fk_drive_theorem.specs.TakenOnce.{request_number}
 use Rattle.fuse_protocol.specs.declared.agreed.Unjudged.{Unjudged}
 use Rattle.fuse_protocol.specs.declared.opcode.Opcode.{Opcode}
 use Rattle.protocol_law.specs.Law.{Carries}
@@ -28,7 +27,7 @@ use Rattle.fuse_sessions.specs.declared.transfer.Transfer.TheVariants as said
 use Rattle.fuse_sessions.specs.Frames.{AreActs, AreReadActs, IsNotified, IsReplyBy, IsReplyOf, IsReplyTo, IsWritten, Lead, interrupt_acts, is_to_interrupt, number_in}
 use Rattle.fuse_sessions.specs.Sessions.{Session}
 use Rattle.fuse_sessions.specs.Waiting.{waits}
-use Rattle.driven_sessions.specs.Taken.{IsTaken, Outcome, written}
+use Rattle.driven_sessions.specs.Taken.{HasHeader, IsTaken, Outcome, written}
 use Rattle.driven_sessions.proofs.Asks.{waits_ask}
 use Rattle.driven_sessions.proofs.Gives.{gives, reply_gives}
 use Rattle.driven_sessions.proofs.Replying.{Knows}
@@ -96,7 +95,7 @@ module _ (id : ℕ) (low : 2 ≤ id) (k : Known) (carries : Carries k.agreed) (b
 
 -- A frame that is accepted adds no more lookups of a node than this. `count` counts mounts.
 abbrev pub Adds : (id count : ℕ) → Kernel → List ℕ → Outcome → (g : ℕ) → Type 0
-Adds id count kernel frame o g = o ≡ written Accepted → head_unique frame % 2 ≡ 0 → head_unique frame < 2 ^ 62
+Adds id count kernel frame o g = o ≡ written Accepted → HasHeader frame → head_unique frame % 2 ≡ 0 → head_unique frame < 2 ^ 62
     → (1 ≤ count) × (p : CodecOpcode) × Knows p (head_unique frame) kernel
     × ((wire : WireReply) → Says p frame wire → times_named id wire ≤ g)
 
@@ -105,26 +104,20 @@ module _ (id : ℕ) (low : 2 ≤ id) (count : ℕ) (old : Driven) (k : Known) (s
   pub heard_adds : (frame : List ℕ) (b : Bor (List ℕ)) → b.now ≡ frame → (t : Taken) (acts : List Act) (later : Known)
       → AreActs k s (said.Written b t) acts later → (o : Outcome) → IsTaken k s b.now t o
       → Adds id count old.kernel frame o (gives id acts)
-  heard_adds frame b same t acts later are o is accepted even less =
+  heard_adds frame b same t acts later are o is accepted headed even less =
       by (waits s (head_unique frame)) refl
     where
-      told : (t ≡ taken.Accepted) × (waits s (request_number (head_unique b.now)) ≢ None)
-      told = let so : IsTaken k s b.now t (written Accepted) = subst (IsTaken k s b.now t) accepted is in so judged
-
       number : number_in b.now ≡ head_unique frame
       number = ap (number_at 8 8) same
 
-      its_own : request_number (head_unique b.now) ≡ head_unique frame
-      its_own = ap request_number number ∙ plain (nat_eq (head_unique frame % 2) 1) (grind (arith, nat_tests, even))
-        where
-          plain : (b : Bool) → b ≡ false → cond b (head_unique frame - 1) (head_unique frame) ≡ head_unique frame
-          plain true e = absurd (false≢true (sym e))
-          plain false e = refl
+      told : (t ≡ taken.Accepted) × (waits s (head_unique b.now) ≢ None)
+      told = let so : IsTaken k s b.now t (written Accepted) = subst (IsTaken k s b.now t) accepted is in
+          so judged (subst HasHeader (sym same) headed) (ap (λ (n : ℕ). n % 2) number ∙ even)
 
       by : (x : Option Asked) → waits s (head_unique frame) ≡ x
           → (1 ≤ count) × (p : CodecOpcode) × Knows p (head_unique frame) old.kernel
           × ((wire : WireReply) → Says p frame wire → times_named id wire ≤ gives id acts)
-      by None there = absurd (told.1 (ap (waits s) its_own ∙ there))
+      by None there = absurd (told.1 (ap (waits s) number ∙ there))
       by (Some a) there =
           let tied = waits_ask (Tied old.kernel) s tells.asks (head_unique frame) a there less in (
             mounted count refl,

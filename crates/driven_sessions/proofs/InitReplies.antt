@@ -6,6 +6,7 @@ use Rattle.std.specs.Int.{cast_unsigned, w32}
 use Rattle.std.proofs.lemmas.Bool.{false≢true}
 use Rattle.std.proofs.lemmas.Int.{ints}
 use Rattle.fk_fields.specs.Fields.{number_at}
+use Rattle.fk_wire.specs.declared.opcode.Opcode.{Opcode as CodecOpcode}
 use Rattle.fk_wire.specs.declared.opcode.Opcode.TheVariants as codec_op
 use Rattle.fk_wire.specs.Opcodes.{latest_minor}
 use Rattle.fk_wire.specs.Replies.{ReplyContent, init_reply}
@@ -34,6 +35,7 @@ use Rattle.fuse_sessions.specs.Numbers.{is_agreement as agrees}
 use Rattle.fuse_sessions.specs.Sessions.{Session}
 use Rattle.fuse_sessions.specs.Waiting.{waits}
 use Rattle.fk_drive_frames.specs.Agreements.{IsAgreement, IsHandedOn, IsOlderAgreement}
+use Rattle.driven_sessions.specs.Taken.{HasHeader}
 use Rattle.driven_sessions.proofs.Early.{Agrees}
 use Rattle.driven_sessions.proofs.Unagreed.{agrees_last, is_init}
 
@@ -43,6 +45,13 @@ pub record IsInitReply (frame : List ℕ) : Type 0 where
   pub succeeds : number_at 4 4 frame ≡ 0
   pub size : (length frame - 16 ≡ 8) ⊎ ((length frame - 16 ≡ 24) ⊎ (length frame - 16 ≡ 64))
   pub under : number_at 8 8 frame ≡ 2
+
+-- What says anything as a reply has a reply's header.
+pub says_headed : (frame : List ℕ) (o : CodecOpcode) (wire : WireReply) → Says o frame wire → HasHeader frame
+says_headed frame o wire says =
+    let read = replied_alike latest_minor before_init o (length frame) frame says.says.message
+    (record { from_umask = omega arith; no_extensions = refl; names = omega arith }) (omega arith) says.says.spells in
+    (read.1.frame, read.1.error)
 
 -- ---- what the codec reads as an agreement
 

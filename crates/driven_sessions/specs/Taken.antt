@@ -1,17 +1,17 @@
 -- What became of each frame that a run received, and the sessions that have of it at least what the kernel made of it.
-use Rattle.std.specs.Prelude.{◌≡◌, ◌≢◌, ℕ, List, [], ◌∷◌, ◌++◌, None}
+use Rattle.std.specs.Prelude.{◌≡◌, ◌≢◌, ◌%◌, ℕ, List, [], ◌∷◌, ◌++◌, None}
 use Rattle.fuse_device.specs.Transfers.{Transfer, received}
 use Rattle.fuse_spec.specs.declared.WriteResult.{WriteResult}
 use Rattle.fuse_spec.specs.declared.WriteResult.TheVariants.{Accepted}
 use Rattle.fk_kernel.specs.AwaitedReplies.{head_unique}
 use Rattle.fk_drive.specs.Driving.{Driven, DriveStep, Drives, waits, writes, next, nothing}
-use Rattle.fk_drive_theorem.specs.TakenOnce.{request_number}
+use Rattle.fuse_replies.specs.Replies.{IsErrorWord, IsFrame}
 use Rattle.fuse_sessions.specs.declared.known.Known.{Known}
 use Rattle.fuse_sessions.specs.declared.act.Taken.{Taken}
 use Rattle.fuse_sessions.specs.declared.act.Taken.TheVariants as taken
 use Rattle.fuse_sessions.specs.declared.transfer.Transfer.{Transfer as Said}
 use Rattle.fuse_sessions.specs.declared.transfer.Transfer.TheVariants as said
-use Rattle.fuse_sessions.specs.Frames.{Lead}
+use Rattle.fuse_sessions.specs.Frames.{Lead, error_in}
 use Rattle.fuse_sessions.specs.Sessions.{Session}
 use Rattle.fuse_sessions.specs.Waiting.{waits as waits_in}
 
@@ -48,11 +48,15 @@ abbrev pub outcomes_of : {old : Driven} {log : List Transfer} {new : Driven} →
 outcomes_of nothing = []
 outcomes_of (next before mid run log new step) = outcomes_after step (outcomes_of run)
 
--- A frame that the kernel accepted was taken as accepted, while the request that it is for waited, as long as frames are
--- judged. So it came after its request. Of any other frame nothing is said.
+-- The header of a reply is whole, with an error or none.
+abbrev pub HasHeader : List ℕ → Type 0
+HasHeader frame = IsFrame frame × IsErrorWord (error_in frame)
+
+-- A reply that the kernel accepted was taken as accepted, while the request under its number waited, as long as frames are
+-- judged. So it came after its request. Of a reply to an INTERRUPT, and of any other frame, nothing is said.
 abbrev pub IsTaken : Known → Session → (frame : List ℕ) → Taken → Outcome → Type 0
-IsTaken k s frame t (written Accepted) = k.unjudged ≡ None
-    → (t ≡ taken.Accepted) × (waits_in s (request_number (head_unique frame)) ≢ None)
+IsTaken k s frame t (written Accepted) = k.unjudged ≡ None → HasHeader frame → head_unique frame % 2 ≡ 0
+    → (t ≡ taken.Accepted) × (waits_in s (head_unique frame) ≢ None)
 IsTaken k s frame t outcome = Unit {0}
 
 -- Of each frame that is written in a session this became, in order, and it was taken so.
