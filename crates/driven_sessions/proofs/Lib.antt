@@ -53,4 +53,5 @@ mod PickedNodes
 mod Listing
 mod Directories
 mod Uncounted
+mod Served
 pub mod Rules

@@ -7,6 +7,7 @@ use Rattle.fk_drive_theorem.proofs.RunsTake.{run_none_again, run_takes_once}
 use Rattle.fk_drive_theorem.proofs.RunsTally.{run_forgets}
 use Rattle.driven_sessions.specs.Rules.{KeepsRules}
 use Rattle.driven_sessions.proofs.BeforeInit.{early_requests_never}
+use Rattle.driven_sessions.proofs.Counted.{lookups_are_counted}
 use Rattle.driven_sessions.proofs.Forgotten.{empty_forgets_never}
 use Rattle.driven_sessions.proofs.Large.{large_writes_never}
 use Rattle.driven_sessions.proofs.LargeForgets.{large_forgets_never}
@@ -16,6 +17,7 @@ use Rattle.driven_sessions.proofs.Malformed.{shapes_never}
 use Rattle.driven_sessions.proofs.Never.{used_numbers_never}
 use Rattle.driven_sessions.proofs.Odd.{odd_numbers_never}
 use Rattle.driven_sessions.proofs.Several.{one_thread_never}
+use Rattle.driven_sessions.proofs.Served.{taken_where_served}
 use Rattle.driven_sessions.proofs.Single.{interrupt_numbers_never}
 use Rattle.driven_sessions.proofs.Uncounted.{uncounted_never}
 
@@ -38,6 +40,8 @@ keeps_rules logs before after asks (new, (log, over, run)) = record {
   early_requests = early_requests_never asks log new run;
   large_forgets = large_forgets_never asks log new run;
   uncounted_nodes = uncounted_never asks log new run;
+  lookups = lookups_are_counted asks log new run;
+  taken = taken_where_served asks log new run;
   answered_once = λ mid rest after. run_once mid rest new after;
   none_again = λ mid rest after no_mount. run_none_again mid rest new after no_mount;
   taken_once = λ first old was number mid takes rest after no_mount.

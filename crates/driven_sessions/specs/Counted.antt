@@ -22,12 +22,16 @@ abbrev pub AreLookupsCounted : Kernel → Session → Type 0
 AreLookupsCounted k s = (node : ℕ) → 2 ≤ node
     → counted (get k.nodes node) + forgotten node k.queues.forgets ≤ most_count s node
 
--- So it is of a kernel that mounts once, whatever server it drives: where the session has of each frame what the kernel made
--- of it, is judged to its end, and each of its agreements carries the codec's frames.
-abbrev pub LookupsAreCounted : Type 0
-LookupsAreCounted = (asks : Bool) (log : List Transfer) (new : Driven) (run : Drives (first_driven asks) log new)
-    → IsOneMount run → (ts : List Said) → AreSaid log ts → (k : Known) (s : Session)
+-- So it is where the session has of each frame what the kernel made of it, is judged to its end, and each of its agreements
+-- carries the codec's frames.
+abbrev pub CountsLookups : {old : Driven} {log : List Transfer} {new : Driven} → Drives old log new → Type 0
+CountsLookups {log = log} {new = new} run = (ts : List Said) → AreSaid log ts → (k : Known) (s : Session)
     (is : IsSession (said.SeveralReaders ∷ ts) k s)
     → AreTaken nothing_known [] (said.SeveralReaders ∷ ts) k s is (outcomes_of run)
     → HaveAgreed Carries nothing_known [] (said.SeveralReaders ∷ ts) k s is → k.unjudged ≡ None
     → AreLookupsCounted new.kernel s
+
+-- So it is of a kernel that mounts once, whatever server it drives.
+abbrev pub LookupsAreCounted : Type 0
+LookupsAreCounted = (asks : Bool) (log : List Transfer) (new : Driven) (run : Drives (first_driven asks) log new)
+    → IsOneMount run → CountsLookups run
