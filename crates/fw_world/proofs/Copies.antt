@@ -48,6 +48,10 @@ use Rattle.fuse_spec.specs.declared.Refusal.TheVariants.{NoMemory, Exhausted}
 use Rattle.fk_kernel.specs.Refused.{PassesEnd, WriteRefused, WritePasses, no_memory, exhausted}
 use Rattle.fuse_spec.specs.Kernel.Refusals as kernel
 use Rattle.fk_kernel.proofs.PastEnds.{passes}
+use Rattle.fk_drive_frames.specs.Agreements.{IsOlderAgreement}
+use Rattle.fuse_theorem.proofs.Requests.LinksSound.{none_at}
+use Rattle.world_sessions.specs.WorldTransfers.{HasTransfersAt}
+use Rattle.world_sessions.proofs.Over.{not_older, of_init, reply_over}
 use Rattle.fw_world.proofs.Happening.{writes}
 use Rattle.fw_world.proofs.Counters.{kernel_all_low, kernel_past, server_low}
 use Rattle.fw_world.proofs.MemoryRefusals.{out_of_memory}
@@ -222,6 +226,24 @@ module _ (w : World) (here : IsSoundWorld w) (place : ℕ) (sent : Sent) (found 
   received_by (each.of_declined call state numbered one live even waits is) o judged awaits =
       as_awaited o awaits (opcode_of (asked state)) (to_call call state even waits is.state_is
       (ap (goes_with (asked state)) is.wire_is ∙ goes_failed (asked state)))
+
+  -- ---- it goes over the device
+
+  not_an_older : IsOlderAgreement bytes → ⊥
+  not_an_older older = by (is_live w.kernel.phase) refl
+    where
+      by : (b : Bool) → is_live w.kernel.phase ≡ b → ⊥
+      by true live =
+          let agreed = here.sound.both.links.agreed live in
+          let wire_is = All-at (λ (s : Sent). s.unique ≡ 2 → s.wire ≡ init_reply w.server.minor init_flags) w.replies place sent
+          agreed.copies found (sym head.1 ∙ of_init bytes older) in
+          not_older bytes sent.unique w.server.minor init_flags
+          (subst (SaysReply opcode.Init bytes sent.unique) wire_is (init (ap is_init_reply wire_is))) older
+      by false dead = none_at w.replies place sent (here.sound.both.links.idle dead).replies found
+
+  pub written_over : (after : World) → HasTransfersAt w (event.write place) after
+  written_over after = reply_over w after place sent found bytes head.0 head.1
+      (λ o judged awaits. received_by can_receive o judged awaits) not_an_older
 
   -- ---- what the kernel made of its bytes
   module _ (written : WriteResult) (new : Kernel)

@@ -18,3 +18,4 @@ pub mod InOrder
 mod ListedNodes
 mod Picking
 mod Stepped
+mod Transferred

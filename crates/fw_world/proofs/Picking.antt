@@ -1,5 +1,5 @@
 -- Why a request that is picked is not read.
-use Rattle.std.proofs.Common.{◌≡◌, false, Option, None, Some}
+use Rattle.std.proofs.Common.{◌≡◌, false, None, Some}
 use Rattle.fuse_spec.specs.declared.Refusal.{Refusal}
 use Rattle.fuse_spec.specs.declared.Refusal.TheVariants.{NoMemory}
 use Rattle.fuse_spec.specs.World.Steps.{IsRefused, RefusedWith, is_past}

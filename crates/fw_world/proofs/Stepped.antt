@@ -4,6 +4,7 @@ use Rattle.fuse_spec.specs.declared.Refusal.{Refusal}
 use Rattle.fuse_spec.specs.World.Events.{Event}
 use Rattle.fuse_spec.specs.World.Steps.{Happens, RefusedWith}
 use Rattle.fuse_spec.specs.World.Worlds.{World}
+use Rattle.world_sessions.specs.WorldTransfers.{HasTransfersAt}
 use Rattle.fw_world.specs.Frames.{IsShown}
 use Rattle.fw_world.specs.Steps.{IsStep}
 use Rattle.fw_world.specs.Values.{outcome_of}
@@ -11,8 +12,8 @@ use Rattle.fw_world.specs.declared.event.Outcome.{Outcome}
 
 pub refused : (old new : World) (e : Event) (refusal : Refusal) → new ≡ old → RefusedWith old e refusal
     → IsStep old e (Err refusal) new
-refused old new e refusal same is = record { err = same; refusal = is; happens = tt; shows = tt }
+refused old new e refusal same is = record { err = same; refusal = is; happens = tt; shows = tt; transfers = tt }
 
 pub happened : (old new : World) (e : Event) (o : Outcome) → Happens old e (outcome_of o) new → IsShown new o
-    → IsStep old e (Ok o) new
-happened old new e o is shown = record { err = tt; refusal = tt; happens = is; shows = shown }
+    → HasTransfersAt old e new → IsStep old e (Ok o) new
+happened old new e o is shown over = record { err = tt; refusal = tt; happens = is; shows = shown; transfers = over }

@@ -3,3 +3,5 @@ mod Alone
 mod Reading
 mod Written
 mod Driven
+pub mod Over
+pub mod GoingOn

@@ -59,7 +59,7 @@ module _ (k : Kernel) (u : ℕ) (wire : WireReply)
       by true none = odd_none (waiting k.queues (u - 1)) none
       by false none = even_none (waiting k.queues u) refl none
 
-kinds_of : (k : Kernel) (u : ℕ) → IsAwaited (awaited k u)
+pub kinds_of : (k : Kernel) (u : ℕ) → IsAwaited (awaited k u)
 kinds_of k u = by (nat_eq (u % 2) 1)
   where
     odd : (o : Option Purpose) → IsAwaited (awaited_by_interrupt o)

@@ -1,5 +1,5 @@
 -- The kernel of a world is driven over the device, and keeps the rules.
-use Rattle.std.specs.Prelude.{◌≡◌, false, List}
+use Rattle.std.specs.Prelude.{◌≡◌, ◌++◌, false, List}
 use Rattle.fuse_device.specs.Transfers.{Transfer}
 use Rattle.fuse_spec.specs.World.Worlds.{World}
 use Rattle.fk_drive.specs.Driving.{Driven, Drives, first_driven}
@@ -15,3 +15,9 @@ KernelIsDriven = (log : List Transfer) (w : World) → HasTransfers log w
 abbrev pub KernelKeepsRules : Type 0
 KernelKeepsRules = (log : List Transfer) (w : World) → HasTransfers log w
     → KeepsRules (λ (before after : Unit {0}) (other : List Transfer). other ≡ log) tt tt false
+
+-- The one world led to the other: a session of the one, from the first world on, goes on to the other as more goes over the
+-- device, and in the whole the kernel keeps the rules.
+abbrev pub SessionGoesOn : World → World → Type 0
+SessionGoesOn old new = (log : List Transfer) → HasTransfers log old → (more : List Transfer) × HasTransfers (log ++ more) new
+    × KeepsRules (λ (before after : Unit {0}) (other : List Transfer). other ≡ log ++ more) tt tt false

@@ -40,6 +40,10 @@ AreTransfersAt w (event.read_pending place) after log = IsRequestTransfer w afte
 AreTransfersAt w (event.write place) after log = IsReplyTransfer w place log
 AreTransfersAt w e after log = log ≡ []
 
+-- Something went over the device at an event so, or nothing did.
+abbrev pub HasTransfersAt : World → Event → World → Type 0
+HasTransfersAt w e after = (log : List Transfer) × AreTransfersAt w e after log
+
 -- The world once the answer of one call is collected.
 abbrev pub answer_collected : World → ℕ → World
 answer_collected w call = record w {

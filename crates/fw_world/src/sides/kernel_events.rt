@@ -1,11 +1,12 @@
 //! The events of the kernel's side: calls, reads, the write of a reply, signals, time, and names dropped and nodes
 //! evicted.
 
-ghost use Rattle.std.specs.Prelude.{◌≡◌, ◌<◌, ◌++◌, ◌∷◌, [], OnErr, IfOk, IfErr};
+ghost use Rattle.std.specs.Prelude.{◌≡◌, ◌<◌, ◌++◌, ◌∷◌, [], List, ℕ, OnErr, IfOk, IfErr};
 ghost use Rattle.std.specs.VecDeque.{deque_len, deque_capacity};
 ghost use Rattle.fuse_spec.specs.World.Events as event;
 ghost use Rattle.fuse_spec.specs.World.Steps.{Happens, IsRefused, RefusedWith};
 ghost use Rattle.fuse_spec.specs.World.Worlds.{World as WorldState};
+ghost use Rattle.fuse_frames.specs.RequestTies.{IsRequestFrame};
 ghost use Rattle.fk_syscalls.specs.Values.{call_of};
 ghost use Rattle.fw_world.specs.Frames.{IsShown};
 ghost use Rattle.fw_world.specs.Steps.{IsStep};
@@ -134,6 +135,7 @@ fn put_read<A: Allocator>(
     requires { deque_len requests.old < deque_capacity requests.old }
     ensures items { requests.new.items ≡ requests.old.items ++ frame ∷ [] }
     ensures outcome { outcome_of result ≡ event.is_read frame.unique }
+    ensures frame { (bytes : List ℕ) × IsRequestFrame bytes frame }
     ensures shows { (world : WorldState) → world.requests ≡ requests.new.items → IsShown world result }
 {
     let (unique, opcode) = frame.head();

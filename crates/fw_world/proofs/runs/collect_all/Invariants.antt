@@ -1,5 +1,6 @@
 use Rattle.std.proofs.Common.{◌≡◌, ◌+◌, ◌≤◌, length}
 use Rattle.std.specs.Vec.{vec_len, vec_capacity}
+use Rattle.world_sessions.specs.KernelRules.{SessionGoesOn}
 use Rattle.fw_world.proofs.Collecting.{Collects}
 use Rattle.fw_world.proofs.runs.collect_all.Given as goal
 
@@ -10,6 +11,7 @@ invariant-loop-call g l = Collects l.fn.world l.fn.records.items l.world l.recor
     × (vec_len l.records + length l.world.kernel.vfs.answers
     ≡ vec_len l.fn.records + length l.fn.world.kernel.vfs.answers)
     × (vec_capacity l.fn.records ≤ vec_capacity l.records)
+    × SessionGoesOn l.fn.world l.world
 
 abbrev pub decreases-loop-call : goal.decreases-loop-call
 decreases-loop-call g l = length l.world.kernel.vfs.answers

@@ -4,11 +4,12 @@ use Rattle.fw_world.specs.Runs.{calls_not_over}
 use Rattle.fw_world.proofs.Recording.{none_ran, one_more, all_ran, comes_to, comes_as_before}
 use Rattle.std.proofs.Common.{◌+◌, ◌*◌, ◌<◌, length, take, arith}
 use Rattle.std.specs.Vec.{vec_len, vec_capacity}
+use Rattle.world_sessions.proofs.GoingOn.{goes_further, stays}
 use Rattle.fw_world.proofs.OverLinks.{room_for_all}
 use Rattle.fw_world.proofs.runs.run.Goals as goal
 
 pub loop-k-init : goal.loop-k-init
-loop-k-init g c = (none_ran c.args.world.now.sides c.args.events.now c.args.records.now.items, omega (arith))
+loop-k-init g c = (none_ran c.args.world.now.sides c.args.events.now c.args.records.now.items, omega (arith), stays c.args.world.now.sides)
 
 pub loop-k-preserved : goal.loop-k-preserved
 loop-k-preserved g c = (
@@ -16,6 +17,7 @@ loop-k-preserved g c = (
       (Mount 0 0 M15) c.run_one.new.world.sides c.run_one.new.records.items c.loop-k-test.true c.loop-k.invariant.0
       (c.run_one.ensures.ran c.if-not-run_one.false),
   omega (arith, c.loop-k.invariant.1, c.run_one.ensures.room c.if-not-run_one.false),
+  goes_further c.args.world.now.sides c.loop-k.world.sides c.run_one.new.world.sides c.loop-k.invariant.2 c.run_one.ensures.session,
 )
 
 pub returns-then-not-run_one-clause-ran : goal.returns-then-not-run_one-clause-ran
@@ -40,3 +42,10 @@ returns-then-not-run_one-clause-room g c =
     omega (arith, c.loop-k.invariant.1, c.loop-k-test.true, c.run_one.ensures.full c.if-not-run_one.true) in
     room_for_all c.args.world.now.sides c.lemma_protocol.ensures.sound (vec_len c.args.records.now)
     (vec_capacity c.args.records.now) c.loop-k.k (length c.args.events.now) c.loop-k-test.true full
+
+pub returns-then-not-run_one-clause-session : goal.returns-then-not-run_one-clause-session
+returns-then-not-run_one-clause-session g c =
+    goes_further c.args.world.now.sides c.loop-k.world.sides c.run_one.new.world.sides c.loop-k.invariant.2 c.run_one.ensures.session
+
+pub returns-clause-session : goal.returns-clause-session
+returns-clause-session g c = c.loop-k.invariant.2

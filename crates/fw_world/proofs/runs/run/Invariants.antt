@@ -1,5 +1,6 @@
 use Rattle.std.proofs.Common.{◌+◌, ◌*◌, ◌≤◌, take}
 use Rattle.std.specs.Vec.{vec_len, vec_capacity}
+use Rattle.world_sessions.specs.KernelRules.{SessionGoesOn}
 use Rattle.fw_world.specs.Runs.{calls_not_over}
 use Rattle.fw_world.proofs.Recording.{RanSo}
 use Rattle.fw_world.proofs.runs.run.Given as goal
@@ -10,3 +11,4 @@ invariant-loop-k g l =
     RanSo l.fn.world.sides (take l.k l.events) l.fn.records.items l.world.sides l.records.items
     × (vec_len l.records + calls_not_over l.world.sides + vec_capacity l.fn.records
     ≤ vec_len l.fn.records + calls_not_over l.fn.world.sides + 2 * l.k + vec_capacity l.records)
+    × SessionGoesOn l.fn.world.sides l.world.sides

@@ -2,6 +2,7 @@ use Rattle.std.proofs.Common.{◌+◌, ◌*◌, ◌<◌, length, take, arith}
 use Rattle.std.specs.Vec.{vec_len, vec_capacity}
 use Rattle.fw_world.specs.declared.event.Event.TheVariants.{Mount}
 use Rattle.fuse_spec.specs.declared.Minor.TheVariants.{M15}
+use Rattle.world_sessions.proofs.GoingOn.{goes_further, stays}
 use Rattle.fw_world.specs.OverLinks.{session_of}
 use Rattle.fw_world.specs.Runs.{calls_not_over}
 use Rattle.fw_world.proofs.OverLinks.{all_over, comes_over, none_ran, one_more, ran_as_before, room_for_all}
@@ -12,6 +13,7 @@ loop-k-init g c = (
   none_ran g.L.Link.carries g.L.Link.failed
       (session_of c.args.self.now.world c.args.self.now.is_lost) c.args.self.now.link c.args.events.now c.args.records.now.items,
   omega (arith),
+  stays c.args.self.now.world,
 )
 
 pub loop-k-preserved : goal.loop-k-preserved
@@ -20,6 +22,7 @@ loop-k-preserved g c = (
       (session_of c.args.self.now.world c.args.self.now.is_lost) c.args.self.now.link c.args.events.now c.args.records.now.items (session_of c.loop-k.self.world c.loop-k.self.is_lost) c.loop-k.self.link c.loop-k.records.items c.loop-k.k
       (Mount 0 0 M15) (session_of c.run_one.new.self.world c.run_one.new.self.is_lost) c.run_one.new.self.link c.run_one.new.records.items c.loop-k-test.true c.loop-k.invariant.0 (c.run_one.ensures.ran c.if-not-run_one.false),
   omega (arith, c.loop-k.invariant.1, c.run_one.ensures.room c.if-not-run_one.false),
+  goes_further c.args.self.now.world c.loop-k.self.world c.run_one.new.self.world c.loop-k.invariant.2 c.run_one.ensures.session,
 )
 
 pub returns-then-not-run_one-clause-ran : goal.returns-then-not-run_one-clause-ran
@@ -51,3 +54,10 @@ returns-then-not-run_one-clause-room g c =
     omega (arith, c.loop-k.invariant.1, c.loop-k-test.true, c.run_one.ensures.full c.if-not-run_one.true) in
     room_for_all c.args.self.now.world c.lemma_protocol.ensures.sound (vec_len c.args.records.now)
     (vec_capacity c.args.records.now) c.loop-k.k (length c.args.events.now) c.loop-k-test.true full
+
+pub returns-then-not-run_one-clause-session : goal.returns-then-not-run_one-clause-session
+returns-then-not-run_one-clause-session g c =
+    goes_further c.args.self.now.world c.loop-k.self.world c.run_one.new.self.world c.loop-k.invariant.2 c.run_one.ensures.session
+
+pub returns-clause-session : goal.returns-clause-session
+returns-clause-session g c = c.loop-k.invariant.2

@@ -1,4 +1,4 @@
-use Rattle.std.proofs.Common.{refl, sym, ◌∙◌}
+use Rattle.std.proofs.Common.{[], refl, sym, ◌∙◌}
 use Rattle.fuse_spec.specs.World.Events as event
 use Rattle.fs_server.specs.Effects.{RefusesAgain, CanSendAgain}
 use Rattle.fw_world.proofs.WorldParts.{has_room, is_made, world_of}
@@ -27,7 +27,7 @@ pub returns : goal.returns
 returns g c =
     happened _ _ _ _ (rw (← c.self.view_is)
     (copied (world_of c.self.inside.kernel c.self.inside.server c.self.inside.requests.items c.self.inside.replies.items c.self.inside.results.items) c.self.invariant c.self.inside.kernel c.again.new.self c.self.inside.requests.items c.put_reply-len.new.replies.items c.self.inside.results.items c.args.unique c.in-Ok.copy c.in-Ok.ensures.sent refl refl
-    (rw (← c.reserve.ensures.items) c.put_reply-len.ensures.items) refl c.lemma_in_range-2.ensures).0) (shows_reply (world_of c.self.inside.kernel c.again.new.self c.self.inside.requests.items c.put_reply-len.new.replies.items c.self.inside.results.items) c.reserve.new.self.items c.in-Ok.copy c.args.unique c.put_reply-len.result c.put_reply-len.ensures.items (again_under c.self.inside.server c.args.unique c.in-Ok.copy c.again.new.self c.in-Ok.ensures.sent) c.put_reply-len.ensures.len)
+    (rw (← c.reserve.ensures.items) c.put_reply-len.ensures.items) refl c.lemma_in_range-2.ensures).0) (shows_reply (world_of c.self.inside.kernel c.again.new.self c.self.inside.requests.items c.put_reply-len.new.replies.items c.self.inside.results.items) c.reserve.new.self.items c.in-Ok.copy c.args.unique c.put_reply-len.result c.put_reply-len.ensures.items (again_under c.self.inside.server c.args.unique c.in-Ok.copy c.again.new.self c.in-Ok.ensures.sent) c.put_reply-len.ensures.len) ([], refl)
 
 pub put_reply-len-requires : goal.put_reply-len-requires
 put_reply-len-requires g c = has_room c.reserve.result _ _ c.reserve.ensures.ok

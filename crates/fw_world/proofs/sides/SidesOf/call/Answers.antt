@@ -1,4 +1,4 @@
-use Rattle.std.proofs.Common.{refl, sym, ◌∙◌}
+use Rattle.std.proofs.Common.{[], refl, sym, ◌∙◌}
 use Rattle.fuse_spec.specs.World.Events as event
 use Rattle.fk_syscalls.specs.Values.{call_of}
 use Rattle.fk_kernel.specs.Refused.{begin_refusal}
@@ -25,4 +25,4 @@ pub returns : goal.returns
 returns g c =
     happened _ _ _ _ (rw (← c.self.view_is)
     (called (world_of c.self.inside.kernel c.self.inside.server c.self.inside.requests.items c.self.inside.replies.items c.self.inside.results.items) c.self.invariant c.begin.new.self c.self.inside.server c.self.inside.requests.items c.self.inside.replies.items c.self.inside.results.items (call_of c.args.call.now) c.in-Ok.call
-    c.in-Ok.ensures.judged c.in-Ok.ensures.number c.in-Ok.ensures.begun refl refl refl refl c.lemma_in_range-2.ensures).0) tt
+    c.in-Ok.ensures.judged c.in-Ok.ensures.number c.in-Ok.ensures.begun refl refl refl refl c.lemma_in_range-2.ensures).0) tt ([], refl)

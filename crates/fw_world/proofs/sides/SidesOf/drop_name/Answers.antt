@@ -1,4 +1,4 @@
-use Rattle.std.proofs.Common.{inl, refl, ◌∙◌}
+use Rattle.std.proofs.Common.{[], inl, refl, ◌∙◌}
 use Rattle.fw_world.proofs.WorldParts.{is_made, world_of}
 use Rattle.fw_world.proofs.EventEffects.{dropped}
 use Rattle.fw_world.proofs.Refusing.{drop_refused}
@@ -16,4 +16,4 @@ invariant_of-self-2 g c = (dropped (world_of c.self.inside.kernel c.self.inside.
 pub returns : goal.returns
 returns g c =
     happened _ _ _ _ (rw (← c.self.view_is) (dropped
-    (world_of c.self.inside.kernel c.self.inside.server c.self.inside.requests.items c.self.inside.replies.items c.self.inside.results.items) c.self.invariant c.drop_binding.new.self c.self.inside.server c.self.inside.requests.items c.self.inside.replies.items c.self.inside.results.items c.args.directory c.args.name.now c.in_default.ensures.judged c.in_default.ensures.dropped refl refl refl refl).0) tt
+    (world_of c.self.inside.kernel c.self.inside.server c.self.inside.requests.items c.self.inside.replies.items c.self.inside.results.items) c.self.invariant c.drop_binding.new.self c.self.inside.server c.self.inside.requests.items c.self.inside.replies.items c.self.inside.results.items c.args.directory c.args.name.now c.in_default.ensures.judged c.in_default.ensures.dropped refl refl refl refl).0) tt ([], refl)

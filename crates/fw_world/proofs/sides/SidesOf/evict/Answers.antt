@@ -1,4 +1,4 @@
-use Rattle.std.proofs.Common.{inl, refl, sym, ◌∙◌}
+use Rattle.std.proofs.Common.{[], inl, refl, sym, ◌∙◌}
 use Rattle.fw_world.proofs.WorldParts.{is_made, world_of}
 use Rattle.fw_world.proofs.EventEffects.{evicted_so}
 use Rattle.fw_world.proofs.Refusing.{evict_refused}
@@ -18,4 +18,4 @@ pub returns : goal.returns
 returns g c =
     happened _ _ _ _ (let gone = c.in-Ok.ensures.evicted in
     rw (← c.self.view_is) (evicted_so
-    (world_of c.self.inside.kernel c.self.inside.server c.self.inside.requests.items c.self.inside.replies.items c.self.inside.results.items) c.self.invariant c.evict.new.self c.self.inside.server c.self.inside.requests.items c.self.inside.replies.items c.self.inside.results.items c.args.node c.in-Ok.count gone.0 c.in-Ok.ensures.judged gone.1 (sym gone.2) gone.3 refl refl refl refl).0) tt
+    (world_of c.self.inside.kernel c.self.inside.server c.self.inside.requests.items c.self.inside.replies.items c.self.inside.results.items) c.self.invariant c.evict.new.self c.self.inside.server c.self.inside.requests.items c.self.inside.replies.items c.self.inside.results.items c.args.node c.in-Ok.count gone.0 c.in-Ok.ensures.judged gone.1 (sym gone.2) gone.3 refl refl refl refl).0) tt ([], refl)

@@ -1,4 +1,4 @@
-use Rattle.std.proofs.Common.{inl, refl, ◌∙◌}
+use Rattle.std.proofs.Common.{[], inl, refl, ◌∙◌}
 use Rattle.fw_world.proofs.WorldParts.{is_made, world_of}
 use Rattle.fw_world.proofs.EventEffects.{signalled}
 use Rattle.fw_world.proofs.Interrupts.{signal_refused}
@@ -16,4 +16,4 @@ invariant_of-self-2 g c = (signalled (world_of c.self.inside.kernel c.self.insid
 pub returns : goal.returns
 returns g c =
     happened _ _ _ _ (rw (← c.self.view_is)
-    (signalled (world_of c.self.inside.kernel c.self.inside.server c.self.inside.requests.items c.self.inside.replies.items c.self.inside.results.items) c.self.invariant c.interrupt.new.self c.self.inside.server c.self.inside.requests.items c.self.inside.replies.items c.self.inside.results.items c.args.call c.args.fatal c.in-Ok.effect c.in-Ok.ensures.judged c.in-Ok.ensures.signalled refl refl refl refl c.lemma_in_range.ensures).0) tt
+    (signalled (world_of c.self.inside.kernel c.self.inside.server c.self.inside.requests.items c.self.inside.replies.items c.self.inside.results.items) c.self.invariant c.interrupt.new.self c.self.inside.server c.self.inside.requests.items c.self.inside.replies.items c.self.inside.results.items c.args.call c.args.fatal c.in-Ok.effect c.in-Ok.ensures.judged c.in-Ok.ensures.signalled refl refl refl refl c.lemma_in_range.ensures).0) tt ([], refl)

@@ -1,4 +1,4 @@
-use Rattle.std.proofs.Common.{refl, ◌∙◌}
+use Rattle.std.proofs.Common.{[], refl, ◌∙◌}
 use Rattle.fuse_spec.specs.World.Events as event
 use Rattle.fk_kernel.specs.Refused.{mount_refusal}
 use Rattle.fw_world.proofs.WorldParts.{is_made, world_of}
@@ -29,4 +29,4 @@ pub returns : goal.returns
 returns g c =
     happened _ _ _ _ (rw (← c.self.view_is)
     (mounted (world_of c.self.inside.kernel c.self.inside.server c.self.inside.requests.items c.self.inside.replies.items c.self.inside.results.items) c.self.invariant c.mount.new.self c.remount.new.self c.clear_links.new.requests.items c.clear_links.new.replies.items c.clear_links.new.results.items c.args.found_ms c.args.missing_ms c.args.minor
-    c.if-found_ms-gt-MAX_VALIDITY.false c.if-missing_ms-gt-MAX_VALIDITY.false c.in_default.ensures.judged c.in_default.ensures.mounted c.remount.ensures c.clear_links.ensures.requests c.clear_links.ensures.replies c.clear_links.ensures.results).0) tt
+    c.if-found_ms-gt-MAX_VALIDITY.false c.if-missing_ms-gt-MAX_VALIDITY.false c.in_default.ensures.judged c.in_default.ensures.mounted c.remount.ensures c.clear_links.ensures.requests c.clear_links.ensures.replies c.clear_links.ensures.results).0) tt ([], refl)

@@ -1,4 +1,4 @@
-use Rattle.std.proofs.Common.{refl, sym, true, ◌∙◌, ◌≡◌}
+use Rattle.std.proofs.Common.{[], refl, sym, true, ◌∙◌, ◌≡◌}
 use Rattle.fw_world.proofs.WorldParts.{is_made, world_of}
 use Rattle.fuse_spec.specs.World.Events as event
 use Rattle.fs_server.specs.Effects.{RefusesHeld}
@@ -34,7 +34,7 @@ returns g c =
     happened _ _ _ _ (rw (← c.self.view_is)
     (performed (world_of c.self.inside.kernel c.self.inside.server c.self.inside.requests.items c.self.inside.replies.items c.self.inside.results.items) c.self.invariant c.self.inside.kernel c.perform.new.self c.self.inside.requests.items c.put_reply-len.new.replies.items c.self.inside.results.items c.args.unique c.in-Ok.done.errno c.in-Some.first
     (rw c.in-Some.is at c.in-Ok.ensures.performed) refl refl
-    (rw (← c.reserve_reply.ensures.items) (rw c.in-Some.is at c.put_reply-len.ensures.items)) refl c.lemma_in_range-2.ensures).0) (shows_reply (world_of c.self.inside.kernel c.perform.new.self c.self.inside.requests.items c.put_reply-len.new.replies.items c.self.inside.results.items) c.reserve_reply.new.replies.items c.in-Some.first c.args.unique c.put_reply-len.result (rw c.in-Some.is at c.put_reply-len.ensures.items) (performed_under c.self.inside.server c.args.unique c.in-Ok.done.errno c.in-Some.first c.perform.new.self (rw c.in-Some.is at c.in-Ok.ensures.performed)) (rw c.in-Some.is at c.put_reply-len.ensures.len))
+    (rw (← c.reserve_reply.ensures.items) (rw c.in-Some.is at c.put_reply-len.ensures.items)) refl c.lemma_in_range-2.ensures).0) (shows_reply (world_of c.self.inside.kernel c.perform.new.self c.self.inside.requests.items c.put_reply-len.new.replies.items c.self.inside.results.items) c.reserve_reply.new.replies.items c.in-Some.first c.args.unique c.put_reply-len.result (rw c.in-Some.is at c.put_reply-len.ensures.items) (performed_under c.self.inside.server c.args.unique c.in-Ok.done.errno c.in-Some.first c.perform.new.self (rw c.in-Some.is at c.in-Ok.ensures.performed)) (rw c.in-Some.is at c.put_reply-len.ensures.len)) ([], refl)
 
 pub put_reply-len-requires : goal.put_reply-len-requires
 put_reply-len-requires g c = c.reserve_reply.ensures.room c.if-not-reserve_reply.false
@@ -45,7 +45,7 @@ pub returns-in_default : goal.returns-in_default
 returns-in_default g c =
     happened _ _ _ _ (rw (← c.self.view_is)
     (lost (world_of c.self.inside.kernel c.self.inside.server c.self.inside.requests.items c.self.inside.replies.items c.self.inside.results.items) c.self.invariant c.self.inside.kernel c.perform.new.self c.self.inside.requests.items c.reserve_reply.new.replies.items c.self.inside.results.items c.args.unique c.in-Ok.done.errno (rw c.in_default.is at c.in-Ok.ensures.performed) refl refl
-    c.reserve_reply.ensures.items refl c.lemma_in_range-2.ensures).0) tt
+    c.reserve_reply.ensures.items refl c.lemma_in_range-2.ensures).0) tt ([], refl)
 
 pub invariant_of-self-in_default : goal.invariant_of-self-in_default
 invariant_of-self-in_default g c = (lost (world_of c.self.inside.kernel c.self.inside.server c.self.inside.requests.items c.self.inside.replies.items c.self.inside.results.items) c.self.invariant c.self.inside.kernel c.perform.new.self c.self.inside.requests.items c.reserve_reply.new.replies.items c.self.inside.results.items c.args.unique c.in-Ok.done.errno (rw c.in_default.is at c.in-Ok.ensures.performed) refl refl

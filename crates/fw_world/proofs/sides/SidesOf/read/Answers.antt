@@ -7,6 +7,7 @@ use Rattle.fw_world.proofs.EventEffects.{picked}
 use Rattle.fw_world.proofs.MemoryRefusals.{judged}
 use Rattle.fw_world.proofs.Picking.{pick_out_of_memory, pick_refused}
 use Rattle.fw_world.proofs.Stepped.{happened, refused}
+use Rattle.fw_world.proofs.Transferred.{read_over}
 use Rattle.fw_world.proofs.sides.SidesOf.read.Goals as goal
 
 pub returns-then-is_err : goal.returns-then-is_err
@@ -35,3 +36,4 @@ returns g c =
     (picked _ c.self.invariant _ _ _ _ _ c.args.pick _ c.in_ok-frame.frame
     c.in_ok-frame.ensures.judged c.in_ok-frame.ensures.frame refl c.in_ok-frame.ensures.read refl
     (rw c.reserve.ensures.items at c.put_read.ensures.items) refl refl c.lemma_in_range-2.ensures).0) (c.put_read.ensures.shows _ refl)
+    (rw (← c.self.view_is) (read_over (world_of c.self.inside.kernel c.self.inside.server c.self.inside.requests.items c.self.inside.replies.items c.self.inside.results.items) _ c.args.pick c.in_ok-frame.frame (rw c.reserve.ensures.items at c.put_read.ensures.items) c.put_read.ensures.frame))

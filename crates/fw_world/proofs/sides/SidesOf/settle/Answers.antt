@@ -1,4 +1,4 @@
-use Rattle.std.proofs.Common.{arith, inl, length, refl}
+use Rattle.std.proofs.Common.{[], arith, inl, length, refl}
 use Rattle.std.proofs.lemmas.Option.{slice_get_read, slice_get_past}
 use Rattle.fw_world.proofs.WorldParts.{world_of}
 use Rattle.fw_world.proofs.EventEffects.{settled}
@@ -27,4 +27,4 @@ returns g c =
     (omega (arith, c.if-place-len.false, c.len.ensures)) c.index-settled.ensures in
     rw (← c.self.view_is)
     (settled (world_of c.self.inside.kernel c.self.inside.server c.self.inside.requests.items c.self.inside.replies.items c.self.inside.results.items) c.self.invariant c.self.inside.kernel c.settle.new.self c.self.inside.requests.items c.self.inside.replies.items c.take_at-settled.new.queue.items c.args.place result
-    there c.in_default.ensures.effect refl refl refl c.take_at-settled.ensures.items).0) tt
+    there c.in_default.ensures.effect refl refl refl c.take_at-settled.ensures.items).0) tt ([], refl)

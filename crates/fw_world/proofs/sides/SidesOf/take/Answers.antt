@@ -1,4 +1,4 @@
-use Rattle.std.proofs.Common.{arith, length, refl, sym, ◌∙◌}
+use Rattle.std.proofs.Common.{[], arith, length, refl, sym, ◌∙◌}
 use Rattle.std.proofs.lemmas.Option.{slice_get_read, slice_get_past}
 use Rattle.fw_world.proofs.WorldParts.{is_made, world_of}
 use Rattle.fw_world.proofs.EventEffects.{took}
@@ -42,7 +42,7 @@ returns g c =
     rw (← c.self.view_is)
     (took (world_of c.self.inside.kernel c.self.inside.server c.self.inside.requests.items c.self.inside.replies.items c.self.inside.results.items) c.self.invariant c.self.inside.kernel c.take.new.self c.take_at-request.new.queue.items c.append_if_any.new.list.items c.self.inside.results.items c.args.place c.index.result.now c.bytes-bytes.result.now c.in-Ok.took
     there c.bytes-bytes.ensures c.in-Ok.ensures.effect refl c.take_at-request.ensures.items
-    (rw (← c.reserve_answer.ensures.items) c.append_if_any.ensures) refl c.lemma_in_range-2.ensures).0) tt
+    (rw (← c.reserve_answer.ensures.items) c.append_if_any.ensures) refl c.lemma_in_range-2.ensures).0) tt ([], refl)
 
 pub returns-then-not-reserve_answer : goal.returns-then-not-reserve_answer
 returns-then-not-reserve_answer g c =

@@ -1,4 +1,4 @@
-use Rattle.std.proofs.Common.{inl, refl, ◌∙◌}
+use Rattle.std.proofs.Common.{[], inl, refl, ◌∙◌}
 use Rattle.fw_world.proofs.WorldParts.{is_made, world_of}
 use Rattle.fw_world.proofs.EventEffects.{ticked}
 use Rattle.fw_world.proofs.Refusing.{tick_refused}
@@ -16,4 +16,4 @@ invariant_of-self-2 g c = (ticked (world_of c.self.inside.kernel c.self.inside.s
 pub returns : goal.returns
 returns g c =
     happened _ _ _ _ (rw (← c.self.view_is) (ticked
-    (world_of c.self.inside.kernel c.self.inside.server c.self.inside.requests.items c.self.inside.replies.items c.self.inside.results.items) c.self.invariant c.tick.new.self c.self.inside.server c.self.inside.requests.items c.self.inside.replies.items c.self.inside.results.items c.args.ms c.in-Ok.clock c.in-Ok.ensures.judged c.in-Ok.ensures.time c.in-Ok.ensures.ticked refl refl refl refl).0) tt
+    (world_of c.self.inside.kernel c.self.inside.server c.self.inside.requests.items c.self.inside.replies.items c.self.inside.results.items) c.self.invariant c.tick.new.self c.self.inside.server c.self.inside.requests.items c.self.inside.replies.items c.self.inside.results.items c.args.ms c.in-Ok.clock c.in-Ok.ensures.judged c.in-Ok.ensures.time c.in-Ok.ensures.ticked refl refl refl refl).0) tt ([], refl)

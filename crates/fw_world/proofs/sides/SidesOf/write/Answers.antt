@@ -2,7 +2,7 @@ use Rattle.std.proofs.Common.{arith, length, refl, sym, ◌∙◌}
 use Rattle.std.proofs.lemmas.Option.{slice_get_read, slice_get_past}
 use Rattle.fw_world.proofs.WorldParts.{after_result, has_room, is_made, was_written, world_of}
 use Rattle.fw_world.proofs.EventEffects.{wrote}
-use Rattle.fw_world.proofs.Copies.{reply_written_is, write_refused, look_refused, has_head}
+use Rattle.fw_world.proofs.Copies.{reply_written_is, write_refused, look_refused, has_head, written_over}
 use Rattle.fw_world.proofs.Refusing.{no_copy}
 use Rattle.fw_world.proofs.Stepped.{happened, refused}
 use Rattle.fw_world.proofs.sides.SidesOf.write.Goals as goal
@@ -53,6 +53,10 @@ returns g c =
     rw (← c.self.view_is, c.unique-unique.ensures)
     (wrote (world_of c.self.inside.kernel c.self.inside.server c.self.inside.requests.items c.self.inside.replies.items c.self.inside.results.items) c.self.invariant c.write.new.self c.self.inside.server c.self.inside.requests.items c.take_at-copy.new.queue.items c.push_back_reserved.new.self.items c.args.place sent c.in-Ok.written
     there took refl refl c.take_at-copy.ensures.items results c.lemma_in_range-2.ensures).0) tt
+    (let sent = c.index-copy.result.now in
+    let there = slice_get_read c.self.inside.replies.items (length c.self.inside.replies.items) c.args.place sent refl
+    (omega (arith, c.if-place-len.false, c.len.ensures)) c.index-copy.ensures in
+    rw (← c.self.view_is) (written_over (world_of c.self.inside.kernel c.self.inside.server c.self.inside.requests.items c.self.inside.replies.items c.self.inside.results.items) c.self.invariant c.args.place sent there c.bytes-2.result.now c.bytes-2.ensures.frame c.bytes-2.ensures.fits c.bytes-2.ensures.init c.bytes-2.ensures.empty (world_of c.write.new.self c.self.inside.server c.self.inside.requests.items c.take_at-copy.new.queue.items c.push_back_reserved.new.self.items)))
 
 pub push_back_reserved-requires : goal.push_back_reserved-requires
 push_back_reserved-requires g c = has_room c.reserve.result _ _ c.reserve.ensures.ok
