@@ -7,7 +7,7 @@ use Rattle.fw_world.specs.declared.event.Event.{Event}
 use Rattle.fw_world.specs.declared.event.Event.TheVariants as event
 use Rattle.fw_world.specs.declared.event.Outcome.{Outcome}
 use Rattle.fw_world.specs.declared.event.Outcome.TheVariants as outcome
-use Rattle.fw_drive.specs.Acts.{Acts}
+use Rattle.fw_world.specs.Acts.{Acts}
 
 to : (old new k : Kernel) → new ≡ k → ActsAlone old k → ActsAlone old new
 to old new k same acts = subst (λ (n : Kernel). ActsAlone old n) (sym same) acts

@@ -21,7 +21,7 @@ use Rattle.fw_script.specs.Records.{answer_text}
 use Rattle.fk_lookup_count.specs.CountedNodes.{listed_counts}
 use Rattle.fw_world.specs.declared.event.Event.{Event}
 use Rattle.fw_world.specs.declared.event.Outcome.{Outcome}
-use Rattle.fw_drive.specs.Acts.{Acts}
+use Rattle.fw_world.specs.Acts.{Acts}
 use Rattle.fw_drive.specs.Findings.{Tells, Told, end_status, is_any_move_wrong, is_any_wrong, is_wrong_move}
 use Rattle.fw_drive.specs.LineMoves.{FirstThen, IsCollected, IsMoveOf, LinesMoveAs, all_lines, first_move}
 use Rattle.fw_drive.specs.Moves.{GoOn, IsBetween, IsDue, IsNote, IsSettled, Move, Moves, MovesOn, acts, sends, writes, collects, shows, notes, end_of, no_move, next_move}

@@ -1,4 +1,3 @@
-pub mod Acts
 pub mod DriveLines
 pub mod Faults
 pub mod Findings

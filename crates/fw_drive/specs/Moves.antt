@@ -19,7 +19,7 @@ use Rattle.fk_drive.specs.declared.writing.Written.{Written}
 use Rattle.fk_lookup_count.specs.CountedNodes.{listed_counts}
 use Rattle.fw_world.specs.declared.event.Event.{Event}
 use Rattle.fw_world.specs.declared.event.Outcome.{Outcome}
-use Rattle.fw_drive.specs.Acts.{Acts}
+use Rattle.fw_world.specs.Acts.{Acts}
 use Rattle.fw_drive.specs.Notes.{Note}
 
 -- A move, with what it results in.

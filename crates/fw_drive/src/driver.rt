@@ -8,13 +8,12 @@ ghost use Rattle.fk_drive.specs.Driving.{Turn, first_driven, idle};
 ghost use Rattle.fk_drive.specs.Notings.{HasNoted};
 ghost use Rattle.fk_drive_frames.specs.declared.filling.FreeFields.{FreeFields as Fields};
 ghost use Rattle.fk_lookup_count.specs.CountedNodes.{listed_counts};
-ghost use Rattle.fw_drive.specs.Acts.{Acts};
+ghost use Rattle.fw_world.specs.Acts.{Acts};
 ghost use Rattle.fw_drive.specs.Moves.{Moves, sends, writes};
 ghost use Rattle.fw_drive.specs.Runs.{Keeps, at};
 ghost use Rattle.fw_drive.specs.Views as views;
 ghost use Rattle.fuse_spec.specs.Kernel.Kernel.{is_live as is_live_phase};
 
-use crate::kernel_events::act;
 use crate::source::Standing;
 use crate::view::KernelView;
 use fk_drive::{
@@ -26,7 +25,7 @@ use fk_queues::QueueTable;
 use fuse_device::Device;
 use fuse_frames::RequestFrame;
 use fuse_spec::{Dentry, NodeCount, Purpose, Refusal};
-use fw_world::{Event, Outcome, Tables};
+use fw_world::{Event, Outcome, Tables, act_alone};
 use std::alloc::{AllocError, Allocator};
 use std::marker::Model;
 
@@ -141,7 +140,7 @@ impl<T: Tables> Driver<T> {
         if matches!(event, Event::Call(_)) {
             self.listed_to = None;
         }
-        match act(&mut self.kernel, event) {
+        match act_alone(&mut self.kernel, event) {
             Ok(outcome) => {
                 if let Outcome::Begun { call } = outcome {
                     self.next_call = call.saturating_add(1);

@@ -14,7 +14,6 @@ mod form;
 mod given;
 mod halt;
 mod input;
-mod kernel_events;
 mod line;
 mod lines;
 mod notes;

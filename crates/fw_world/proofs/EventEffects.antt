@@ -78,14 +78,14 @@ has_no_copy false number unique wire is = absurd
 
 module _ (w : World) (sound : IsSoundWorld w) (kernel : Kernel) (server : Server) (requests : List Request)
     (replies : List Sent) (results : List ReplyResult) where
-  abbrev made : World
+  abbrev pub made : World
   made = world_of kernel server requests replies results
 
-  abbrev Made : Event → Outcome → Type 0
+  abbrev pub Made : Event → Outcome → Type 0
   Made e o = Happens w e o made × IsSoundWorld made
 
   -- No counter is past its end.
-  abbrev Within : Type 0
+  abbrev pub Within : Type 0
   Within = (x : World) → x.kernel ≡ kernel → x.server ≡ server → is_past x ≡ false
 
   made_by : (e : Event) (o : Outcome) (after : World) → made ≡ after → Happens w e o after → Made e o

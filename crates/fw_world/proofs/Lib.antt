@@ -19,3 +19,4 @@ mod ListedNodes
 mod Picking
 mod Stepped
 mod Transferred
+mod Alone

@@ -5,3 +5,4 @@ pub mod Sends
 pub mod Steps
 pub mod OverLinks
 pub mod ListedNodes
+pub mod Acts

@@ -3,6 +3,7 @@
 
 mod envelopes;
 mod event;
+mod kernel_alone;
 mod laws;
 mod links;
 mod record;
@@ -15,6 +16,7 @@ mod world;
 pub use event::{Event, Outcome};
 pub use fk_kernel::{Answer, Call, ListedName, ListedNames, Listing, Pick};
 pub use fuse_spec::{Attributes, IntrEffect, Kind, Minor, Refusal, Taken, WriteResult};
+pub use kernel_alone::act_alone;
 pub use laws::lost_where_failed;
 pub use record::Record;
 pub use runs::run;

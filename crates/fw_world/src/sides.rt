@@ -30,7 +30,7 @@ mod server_events;
 use crate::event::{Event, Outcome};
 use crate::links::clear_links;
 use crate::tables::Tables;
-use fk_kernel::{Answer, Call, KernelOf};
+use fk_kernel::{Answer, KernelOf};
 use fs_server::ServerOf;
 use fuse_frames::{RequestFrame, Sent};
 use fuse_spec::limits::MAX_VALIDITY;
@@ -141,18 +141,18 @@ impl<T: Tables> SidesOf<T> {
                 missing_ms,
                 minor,
             } => self.mount(*found_ms, *missing_ms, *minor),
-            Event::Call(call) => self.call(call),
             Event::Read(pick) => self.read(*pick),
             Event::Take(place) => self.take(*place),
             Event::Do(unique) => self.perform(*unique),
             Event::Again(unique) => self.again(*unique),
             Event::Write(place) => self.write(*place),
             Event::Settle(place) => self.settle(*place),
-            Event::Interrupt { call, fatal } => self.interrupt(*call, *fatal),
-            Event::Tick(ms) => self.tick(*ms),
-            Event::DropName { directory, name } => self.drop_name(*directory, name),
-            Event::Evict(node) => self.evict(*node),
             Event::Abort => self.abort(),
+            Event::Call(_)
+            | Event::Interrupt { .. }
+            | Event::Tick(_)
+            | Event::DropName { .. }
+            | Event::Evict(_) => self.alone(event),
         }
     }
 

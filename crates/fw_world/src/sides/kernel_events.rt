@@ -1,5 +1,4 @@
-//! The events of the kernel's side: calls, reads, the write of a reply, signals, time, and names dropped and nodes
-//! evicted.
+//! The events of the kernel's side: those of the kernel alone, reads, and the write of a reply.
 
 ghost use Rattle.std.specs.Prelude.{◌≡◌, ◌<◌, ◌++◌, ◌∷◌, [], List, ℕ, OnErr, IfOk, IfErr};
 ghost use Rattle.std.specs.VecDeque.{deque_len, deque_capacity};
@@ -7,17 +6,18 @@ ghost use Rattle.fuse_spec.specs.World.Events as event;
 ghost use Rattle.fuse_spec.specs.World.Steps.{Happens, IsRefused, RefusedWith};
 ghost use Rattle.fuse_spec.specs.World.Worlds.{World as WorldState};
 ghost use Rattle.fuse_frames.specs.RequestTies.{IsRequestFrame};
-ghost use Rattle.fk_syscalls.specs.Values.{call_of};
+ghost use Rattle.fw_world.specs.Acts.{IsAlone};
 ghost use Rattle.fw_world.specs.Frames.{IsShown};
 ghost use Rattle.fw_world.specs.Steps.{IsStep};
-ghost use Rattle.fw_world.specs.Values.{outcome_of, read_of};
+ghost use Rattle.fw_world.specs.Values.{event_of, outcome_of, read_of};
 
 use super::SidesOf;
 use super::counters::lemma_in_range;
 use super::refusals::refusal_or_no_memory;
-use crate::event::Outcome;
+use crate::event::{Event, Outcome};
+use crate::kernel_alone::act_alone;
 use crate::tables::Tables;
-use fk_kernel::{Call, Pick};
+use fk_kernel::Pick;
 use fuse_frames::RequestFrame;
 use fuse_spec::{Refusal, ReplyResult};
 use fuse_tables::take_at;
@@ -25,18 +25,14 @@ use std::alloc::Allocator;
 use std::collections::VecDeque;
 
 impl<T: Tables> SidesOf<T> {
-    pub(super) fn call(&mut self, call: &Call<'_>) -> Result<Outcome, Refusal>
-        ensures { IsStep self.old (event.call (call_of call.now)) result self.new }
+    /// An event of the kernel alone.
+    pub(super) fn alone(&mut self, event: &Event<'_>) -> Result<Outcome, Refusal>
+        requires { IsAlone event.now }
+        ensures { IsStep self.old (event_of event.now) result self.new }
     {
-        let call = match self.kernel.begin(call) {
-            Ok(call) => call,
-            Err(refusal) => {
-                lemma_in_range(&self.kernel, &self.server);
-                return Err(refusal);
-            }
-        };
+        let acted = act_alone(&mut self.kernel, event);
         lemma_in_range(&self.kernel, &self.server);
-        Ok(Outcome::Begun { call })
+        acted
     }
 
     pub(super) fn read(&mut self, pick: Pick) -> Result<Outcome, Refusal>
@@ -83,46 +79,6 @@ impl<T: Tables> SidesOf<T> {
             unique,
             result: written,
         })
-    }
-
-    pub(super) fn interrupt(&mut self, call: u64, fatal: bool) -> Result<Outcome, Refusal>
-        ensures { IsStep self.old (event.intr call fatal) result self.new }
-    {
-        let effect = match self.kernel.interrupt(call, fatal) {
-            Ok(effect) => effect,
-            Err(refusal) => return Err(refusal),
-        };
-        lemma_in_range(&self.kernel, &self.server);
-        Ok(Outcome::Interrupted { call, effect })
-    }
-
-    pub(super) fn tick(&mut self, ms: u64) -> Result<Outcome, Refusal>
-        ensures { IsStep self.old (event.tick ms) result self.new }
-    {
-        let clock = match self.kernel.tick(ms) {
-            Ok(clock) => clock,
-            Err(refusal) => return Err(refusal),
-        };
-        Ok(Outcome::Now { clock })
-    }
-
-    pub(super) fn drop_name(&mut self, directory: u64, name: &[u8]) -> Result<Outcome, Refusal>
-        ensures { IsStep self.old (event.drop_name directory name.now) result self.new }
-    {
-        if let Err(refusal) = self.kernel.drop_binding(directory, name) {
-            return Err(refusal);
-        }
-        Ok(Outcome::Dropped)
-    }
-
-    pub(super) fn evict(&mut self, node: u64) -> Result<Outcome, Refusal>
-        ensures { IsStep self.old (event.evict node) result self.new }
-    {
-        let count = match self.kernel.evict(node) {
-            Ok(count) => count,
-            Err(refusal) => return Err(refusal),
-        };
-        Ok(Outcome::Evicted { node, count })
     }
 }
 

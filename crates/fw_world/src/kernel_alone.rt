@@ -1,24 +1,25 @@
 //! What the kernel does without its server.
 
-ghost use Rattle.std.specs.Prelude.{◌≡◌, IfOk, OnErr};
-ghost use Rattle.fw_drive.specs.Acts.{Acts};
+ghost use Rattle.std.specs.Prelude.{◌≡◌, IfErr, IfOk, OnErr};
+ghost use Rattle.fw_world.specs.Acts.{ActRefuses, Acts};
 
+use crate::event::{Event, Outcome};
 use fk_kernel::KernelOf;
 use fk_lookup_count::CountTable;
 use fk_queues::QueueTable;
 use fuse_spec::{Purpose, Refusal};
-use fw_world::{Event, Outcome};
 
-/// An event happens that moves the kernel without its server. Any other is refused.
+/// An event happens to a kernel, without its server. Any other is refused as `NoSuch`.
 ///
 /// # Errors
 ///
 /// As the kernel refuses it. Nothing is then changed.
-pub(crate) fn act<Q: QueueTable<Purpose>, C: CountTable<Heap = Q::Heap>>(
+pub fn act_alone<Q: QueueTable<Purpose>, C: CountTable<Heap = Q::Heap>>(
     kernel: &mut KernelOf<Q, C>,
     event: &Event<'_>,
 ) -> Result<Outcome, Refusal>
     ensures does { IfOk result (λ outcome. Acts kernel.old event.now outcome kernel.new) }
+    ensures refusal { IfErr result (ActRefuses kernel.old event.now) }
     ensures err { OnErr result (kernel.new ≡ kernel.old) }
 {
     match *event {
