@@ -1,1 +1,2 @@
 mod Stepping
+mod Heard

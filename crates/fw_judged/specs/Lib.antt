@@ -1,3 +1,4 @@
 pub mod Judged
 pub mod Sides
 pub mod Turns
+pub mod Accepted

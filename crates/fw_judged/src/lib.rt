@@ -4,6 +4,7 @@
 //! transfer of a session each call over the device is.
 #![tactic(auto)]
 
+mod accepted;
 mod capture_line;
 mod counts;
 mod form;
@@ -13,6 +14,7 @@ mod server;
 mod stage;
 mod taking;
 
+pub use accepted::replies_are_accepted;
 pub use counts::FaultCounts;
 pub use judged::JudgedDevice;
 pub use server::JudgedServer;
