@@ -8,7 +8,7 @@ ghost use Rattle.fuse_tables.specs.LateValues.{AreKept, entries_of};
 ghost use Rattle.fuse_tables.specs.KeyTests.{Tells, kept_by};
 
 use crate::live_rows::{
-    Rows, free_row, is_above, push_last, put_row, replace_row, take_row, value_in,
+    Rows, free_row, is_above, is_below, push_last, put_row, replace_row, take_row, value_in,
 };
 use std::alloc::Allocator;
 use std::collections::BTreeMap;
@@ -57,8 +57,8 @@ fn take_beside<V: Drop, A: Allocator>(
     take_row(rows, key)
 }
 
-/// Puts a value at a key that is not above those of all rows: among few rows, or else into the map. Where that is out of
-/// memory too, the rows on the shorter side of the key move. There is room for a row.
+/// Puts a value at a key that is not above those of all rows: before them all or among few, or else into the map. Where that
+/// is out of memory too, the rows on the shorter side of the key move. There is room for a row.
 #[inline(never)]
 fn put_late<V: Drop, A: Allocator + Copy>(
     rows: &mut Rows<V, A>,
@@ -74,7 +74,7 @@ fn put_late<V: Drop, A: Allocator + Copy>(
     ensures kept { AreKept rows.new.items late.new.entries }
     ensures capacity { deque_capacity rows.old ≤ deque_capacity rows.new }
 {
-    if rows.capacity() <= FEW {
+    if rows.capacity() <= FEW || is_below(rows, key) {
         return put_row(rows, key, value);
     }
     match late.insert(key, value) {

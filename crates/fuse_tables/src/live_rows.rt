@@ -1,6 +1,6 @@
 //! Rows in rising key, of which some are empty.
 
-ghost use Rattle.std.specs.Prelude.{◌≡◌, ◌+◌, ◌-◌, ◌<◌, ◌≤◌, ◌↔◌, IsSome, MatchOption, None, T, is_some, length, true};
+ghost use Rattle.std.specs.Prelude.{◌≡◌, ◌+◌, ◌-◌, ◌<◌, ◌≤◌, ◌↔◌, ℕ, IsSome, MatchOption, None, Option, Some, T, is_some, length, slice_get, true};
 ghost use Rattle.std.specs.Option.{option_copied};
 ghost use Rattle.std.specs.Ordering.{nat_cmp};
 ghost use Rattle.std.specs.FinMap.{is_sorted};
@@ -113,6 +113,17 @@ pub(crate) fn is_above<V, A: Allocator>(rows: &Rows<V, A>, key: u64) -> bool
 {
     let len = rows.len();
     len == 0 || rows[len - 1].0 < key
+}
+
+/// Whether a key is below those of all rows.
+#[inline(always)]
+pub(crate) fn is_below<V, A: Allocator>(rows: &Rows<V, A>, key: u64) -> bool
+    ensures { result ≡ true → (row : ℕ × Option V) → slice_get rows.now.items 0 ≡ Some row → key < row.0 }
+{
+    match rows.front() {
+        Some(row) => key < row.0,
+        None => true,
+    }
 }
 
 /// Puts a value last, at a key above those of all rows. There is room for a row.

@@ -17,9 +17,10 @@ use std::marker::Model;
 /// A map from numbers to values, for numbers that mostly rise. Seen as its entries in rising key and its room: how many
 /// more it takes and refuses none.
 ///
-/// A key above those of all rows gets a row behind them, which takes no memory. Any other comes late: its value goes
-/// into an ordered map beside the rows, which stays empty as long as keys rise. Where memory has no place for it there,
-/// and in a table of few rows, it gets a row, and those on the shorter side of it move.
+/// A key above those of all rows gets a row behind them, and one below them all a row before them, which take no memory.
+/// Any other comes late: its value goes into an ordered map beside the rows, which stays empty as long as keys rise, or
+/// fall. Where memory has no place for it there, and in a table of few rows, it gets a row, and those on the shorter side of
+/// it move.
 ///
 /// A value that is taken out between others leaves an empty row, and the empty rows go all at once where no row is left
 /// to fill. Room is half of what fits in all, so each such pass frees at least as many rows as it keeps.
