@@ -39,24 +39,23 @@ pub first_name : (slots : NameMap (Option Dentry)) → T (is_sorted place_cmp sl
 first_name slots h None some none = none
 first_name slots h (Some n) some none = ap is_some (get-names slots h (n.0, n.1.now)) ∙ some
 
-module _ {A : Type 0} where
-  -- one of these rows has a dentry
-  abbrev pub is_any_bound : Entries A → Bool
-  is_any_bound es = list_any (λ e. is_some e.1) es
+-- one of these rows has a dentry
+abbrev pub is_any_bound : Entries → Bool
+is_any_bound es = list_any (λ e. is_some e.1) es
 
-  none_at : (es : Entries A) (q : Place) → is_any_bound es ≡ false → bound_in (lookup (is_of q) es) ≡ None
-  none_at [] q e = refl
-  none_at (row ∷ es) q e =
-      elim (is_of q row.0) as (λ b. bound_in (cond b (Some row.1) (lookup (is_of q) es)) ≡ None) [
-        | true ↦ unbound row.1 (not_first (is_some row.1) (is_any_bound es) e)
-        | false ↦ none_at es q (not_rest (is_some row.1) (is_any_bound es) e)
-      ]
+none_at : (es : Entries) (q : Place) → is_any_bound es ≡ false → bound_in (lookup (is_of q) es) ≡ None
+none_at [] q e = refl
+none_at (row ∷ es) q e =
+    elim (is_of q row.0) as (λ b. bound_in (cond b (Some row.1) (lookup (is_of q) es)) ≡ None) [
+      | true ↦ unbound row.1 (not_first (is_some row.1) (is_any_bound es) e)
+      | false ↦ none_at es q (not_rest (is_some row.1) (is_any_bound es) e)
+    ]
 
-  -- no name is bound where no row has a dentry
-  pub none_bound : (es : Entries A) → is_any_bound es ≡ false → bound_names (slots_of es) ≡ []
-  none_bound es e = alike (slots_of es) [] (sorted_slots es) tt (λ q. ap bound_in (get-slots es q) ∙ none_at es q e)
+-- no name is bound where no row has a dentry
+pub none_bound : (es : Entries) → is_any_bound es ≡ false → bound_names (slots_of es) ≡ []
+none_bound es e = alike (slots_of es) [] (sorted_slots es) tt (λ q. ap bound_in (get-slots es q) ∙ none_at es q e)
 
-  -- a name is bound where its row has a dentry
-  pub is_bound : (es : Entries A) (q : Place) (slot : Option Dentry) → lookup (is_of q) es ≡ Some slot
-      → is_some slot ≡ true → IsSome (bound_in (get_name (slots_of es) q))
-  is_bound es q slot at is = ap (λ found. is_some (bound_in found)) (get-slots es q ∙ at) ∙ is
+-- a name is bound where its row has a dentry
+pub is_bound : (es : Entries) (q : Place) (slot : Option Dentry) → lookup (is_of q) es ≡ Some slot
+    → is_some slot ≡ true → IsSome (bound_in (get_name (slots_of es) q))
+is_bound es q slot at is = ap (λ found. is_some (bound_in found)) (get-slots es q ∙ at) ∙ is

@@ -1,5 +1,6 @@
 -- The entries of the ordered map, read as slots in rising order.
 use Rattle.std.proofs.Common.{◌≡◌, ℕ, ◌+◌, ◌≤◌, Bool, true, false, cond, not, List, [], ◌∷◌, length, Option, Some, None, is_some, refl, sym, ap, subst, ◌∙◌, arith, T}
+use Rattle.std.specs.List.{All}
 use Rattle.std.specs.Map.{lookup, KeepsOthers}
 use Rattle.std.specs.Ordering.{eq_by_cmp}
 use Rattle.std.specs.Cmp.{eq_by_cmp_equiv}
@@ -8,13 +9,13 @@ use Rattle.std.specs.FinMap.Entries.{is_sorted-put, is_sorted-where_key, same_en
 use Rattle.fuse_spec.specs.declared.Dentry.{Dentry}
 use Rattle.fuse_spec.specs.Values.Maps.{Place, place_cmp, get_name, put_name, remove_name}
 use Rattle.fuse_spec.proofs.Tables.{place_total, name_put, name_gone}
-use Rattle.fk_dentry.specs.declared.key.NameKey.{NameKey}
-use Rattle.fk_dentry.specs.Keys.{place_of_key, is_of}
+use Rattle.fk_dentry.specs.Keys.{front_of, is_of}
 use Rattle.fk_dentry.specs.Rows.{slots_of}
+use Rattle.fk_dentry.proofs.KeyOrder.{both_tests, key_test, test_by, test_of}
 use Rattle.fk_dentry.proofs.PlaceOrder.{place_same, tied}
 
-abbrev pub Entries : Type 0 → Type 0
-Entries A = List (NameKey A × Option Dentry)
+abbrev pub Entries : Type 0
+Entries = List (Place × Option Dentry)
 
 one_more : (b : Bool) (n m : ℕ) → n ≤ m → cond b n (n + 1) ≤ m + 1
 one_more true n m le = omega arith
@@ -24,58 +25,79 @@ turned : (b : Bool) (x : Option (Option Dentry)) → cond b None x ≡ cond (not
 turned true x = refl
 turned false x = refl
 
-module _ {A : Type 0} where
-  -- all entries but that of one name are the same
-  abbrev pub KeepsNames : Place → Entries A → Entries A → Type 0
-  KeepsNames key old new = KeepsOthers (λ (x y : NameKey A). is_of (place_of_key x) y) (is_of key) old new
+-- all entries but that of one name are the same
+abbrev pub KeepsNames : Place → Entries → Entries → Type 0
+KeepsNames key old new = KeepsOthers (λ (x y : Place). is_of x y) (is_of key) old new
 
-  pub sorted_slots : (es : Entries A) → T (is_sorted place_cmp (slots_of es))
-  sorted_slots [] = tt
-  sorted_slots (e ∷ es) = is_sorted-put place_cmp place_total (place_of_key e.0) e.1 (slots_of es) (sorted_slots es)
+pub sorted_slots : (es : Entries) → T (is_sorted place_cmp (slots_of es))
+sorted_slots [] = tt
+sorted_slots (e ∷ es) = is_sorted-put place_cmp place_total e.0 e.1 (slots_of es) (sorted_slots es)
 
-  pub get-slots : (es : Entries A) (q : Place) → get_name (slots_of es) q ≡ lookup (is_of q) es
-  get-slots [] q = refl
-  get-slots (e ∷ es) q = name_put (slots_of es) (place_of_key e.0) e.1 q ∙ ap
-      (cond (is_of q e.0) (Some e.1)) (get-slots es q)
+pub get-slots : (es : Entries) (q : Place) → get_name (slots_of es) q ≡ lookup (is_of q) es
+get-slots [] q = refl
+get-slots (e ∷ es) q = name_put (slots_of es) e.0 e.1 q ∙ ap
+    (cond (is_of q e.0) (Some e.1)) (get-slots es q)
 
-  pub few_slots : (es : Entries A) → length (slots_of es) ≤ length es
-  few_slots [] = omega arith
-  few_slots (e ∷ es) =
-      let most = one_more (is_some (get_name (slots_of es) (place_of_key e.0))) _ _ (few_slots es) in
-      let len = length-put place_cmp place_total (place_of_key e.0) e.1 (slots_of es) (sorted_slots es) in
-      omega arith
+pub few_slots : (es : Entries) → length (slots_of es) ≤ length es
+few_slots [] = omega arith
+few_slots (e ∷ es) =
+    let most = one_more (is_some (get_name (slots_of es) e.0)) _ _ (few_slots es) in
+    let len = length-put place_cmp place_total e.0 e.1 (slots_of es) (sorted_slots es) in
+    omega arith
 
-  -- what is found under any name, where only what stands under one changed
-  changed : (old new : Entries A) (key : Place) (slot : Option (Option Dentry)) → lookup (is_of key) new ≡ slot
-      → KeepsNames key old new
-      → (q : Place) → get_name (slots_of new) q ≡ cond (eq_by_cmp place_cmp q key) slot (get_name (slots_of old) q)
-  unfolding KeepsOthers
-  changed old new key slot at others q = by (eq_by_cmp place_cmp q key) refl
-    where
-      by : (b : Bool) → eq_by_cmp place_cmp q key ≡ b → get_name (slots_of new) q
-          ≡ cond b slot (get_name (slots_of old) q)
-      by true e = get-slots new q ∙ ap (λ (p : Place). lookup (is_of p) new) (place_same q key (tied _ e)) ∙ at
-      by false e =
-          get-slots new q
-          ∙ others (is_of q) (λ x y h. (eq_by_cmp_equiv place_total).congr q (place_of_key x) (place_of_key y) h)
-          (λ k h. ap (λ (p : Place). eq_by_cmp place_cmp q p) (sym (place_same key (place_of_key k) (tied _ h))) ∙ e)
-          ∙ sym (get-slots old q)
+-- what is found under any name, where only what stands under one changed
+changed : (old new : Entries) (key : Place) (slot : Option (Option Dentry)) → lookup (is_of key) new ≡ slot
+    → KeepsNames key old new
+    → (q : Place) → get_name (slots_of new) q ≡ cond (eq_by_cmp place_cmp q key) slot (get_name (slots_of old) q)
+unfolding KeepsOthers
+changed old new key slot at others q = by (eq_by_cmp place_cmp q key) refl
+  where
+    by : (b : Bool) → eq_by_cmp place_cmp q key ≡ b → get_name (slots_of new) q
+        ≡ cond b slot (get_name (slots_of old) q)
+    by true e = get-slots new q ∙ ap (λ (p : Place). lookup (is_of p) new) (place_same q key (tied _ e)) ∙ at
+    by false e =
+        get-slots new q
+        ∙ others (is_of q) (λ x y h. (eq_by_cmp_equiv place_total).congr q x y h)
+        (λ k h. ap (λ (p : Place). eq_by_cmp place_cmp q p) (sym (place_same key k (tied _ h))) ∙ e)
+        ∙ sym (get-slots old q)
 
-  pub slots-put : (old new : Entries A) (key : Place) (slot : Option Dentry) → lookup (is_of key) new ≡ Some slot
-      → KeepsNames key old new → slots_of new ≡ put_name (slots_of old) key slot
-  slots-put old new key slot at others =
-      same_entries place_cmp place_total place_same _ _ (sorted_slots new)
-      (is_sorted-put place_cmp place_total key slot (slots_of old) (sorted_slots old))
-      (λ q. changed old new key (Some slot) at others q ∙ sym (name_put (slots_of old) key slot q))
+-- What is found by the parts of a name is found under it.
+pub found_by_parts : (es : Entries) (p : Place) (front : ℕ) → front ≡ front_of p.1
+    → lookup (test_by p.0 front p.1) es ≡ get_name (slots_of es) p
+found_by_parts es p front is = ap (λ (test : Place → Bool). lookup test es) (test_of p front is) ∙ sym (get-slots es p)
 
-  pub slots-remove : (old new : Entries A) (key : Place) → lookup (is_of key) new ≡ None
-      → KeepsNames key old new → slots_of new ≡ remove_name (slots_of old) key
-  slots-remove old new key at others =
-      same_entries place_cmp place_total place_same _ _ (sorted_slots new)
-      (is_sorted-where_key place_cmp (λ p. not (eq_by_cmp place_cmp key p)) (slots_of old) (sorted_slots old))
-      (λ q. changed old new key None at others q ∙ turned (eq_by_cmp place_cmp q key) (get_name (slots_of old) q)
-      ∙ ap (λ b. cond (not b) (get_name (slots_of old) q) None) ((eq_by_cmp_equiv place_total).symm q key)
-      ∙ sym (name_gone (slots_of old) key q))
+pub under_parts : (es : Entries) (p : Place) (front : ℕ) → front ≡ front_of p.1 → (slot : Option (Option Dentry))
+    → lookup (test_by p.0 front p.1) es ≡ slot → lookup (is_of p) es ≡ slot
+under_parts es p front is slot at = ap (λ (test : Place → Bool). lookup test es) (sym (test_of p front is)) ∙ at
+
+pub keeps_by_parts : (p : Place) (front : ℕ) → front ≡ front_of p.1 → (old new : Entries)
+    → KeepsOthers key_test (test_by p.0 front p.1) old new → KeepsNames p old new
+keeps_by_parts p front is old new keeps =
+    subst (λ (tests : Place → Place → Bool). KeepsOthers tests (is_of p) old new) both_tests
+    (subst (λ (test : Place → Bool). KeepsOthers key_test test old new) (test_of p front is) keeps)
+
+-- Each entry is found under its own name.
+pub all_under : (es : Entries) → All (λ (e : Place × Option Dentry). lookup (key_test e.0) es ≡ Some e.1) es
+    → All (λ (e : Place × Option Dentry). lookup (is_of e.0) es ≡ Some e.1) es
+all_under es all =
+    subst (λ (tests : Place → Place → Bool). All (λ (e : Place × Option Dentry). lookup (tests e.0) es ≡ Some e.1) es)
+    both_tests all
+
+pub slots-put : (old new : Entries) (key : Place) (slot : Option Dentry) → lookup (is_of key) new ≡ Some slot
+    → KeepsNames key old new → slots_of new ≡ put_name (slots_of old) key slot
+slots-put old new key slot at others =
+    same_entries place_cmp place_total place_same _ _ (sorted_slots new)
+    (is_sorted-put place_cmp place_total key slot (slots_of old) (sorted_slots old))
+    (λ q. changed old new key (Some slot) at others q ∙ sym (name_put (slots_of old) key slot q))
+
+pub slots-remove : (old new : Entries) (key : Place) → lookup (is_of key) new ≡ None
+    → KeepsNames key old new → slots_of new ≡ remove_name (slots_of old) key
+slots-remove old new key at others =
+    same_entries place_cmp place_total place_same _ _ (sorted_slots new)
+    (is_sorted-where_key place_cmp (λ p. not (eq_by_cmp place_cmp key p)) (slots_of old) (sorted_slots old))
+    (λ q. changed old new key None at others q ∙ turned (eq_by_cmp place_cmp q key) (get_name (slots_of old) q)
+    ∙ ap (λ b. cond (not b) (get_name (slots_of old) q) None) ((eq_by_cmp_equiv place_total).symm q key)
+    ∙ sym (name_gone (slots_of old) key q))
 
 pub unfound : {A : Type 0} (o : Option A) → is_some o ≡ false → o ≡ None
 unfound None e = refl

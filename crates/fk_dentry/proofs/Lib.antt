@@ -4,6 +4,7 @@ pub mod PlaceOrder
 pub mod KeyedRows
 pub mod BoundNames
 pub mod FirstBound
+mod KeyOrder
 pub mod NamedIds
 pub mod Counts
 pub mod TableLemmas

@@ -14,7 +14,7 @@ pub record NamesInForce : Type 0 where
   pub names : NameMap Dentry
   pub slots : NameMap (Option Dentry)
 
-abbrev place_code : Coded Place
+abbrev pub place_code : Coded Place
 place_code = coded× coded_ℕ (coded_list coded_ℕ)
 
 abbrev dentry_code : Coded Dentry

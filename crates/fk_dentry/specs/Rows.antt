@@ -2,16 +2,13 @@
 use Rattle.std.specs.Prelude.{◌≡◌, ℕ, ◌+◌, ◌≤◌, List, [], ◌∷◌, Option, Some, None, length, T}
 use Rattle.std.specs.FinMap.{is_sorted}
 use Rattle.fuse_spec.specs.declared.Dentry.{Dentry}
-use Rattle.fuse_spec.specs.Values.Maps.{NameMap, place_cmp, put_name}
-use Rattle.fk_dentry.specs.declared.key.NameKey.{NameKey}
-use Rattle.fk_dentry.specs.Keys.{place_of_key}
+use Rattle.fuse_spec.specs.Values.Maps.{NameMap, Place, place_cmp, put_name}
 use Rattle.fk_dentry.specs.Named.{uses, mentions}
 
-module _ {A : Type 0} where
-  -- each name that has room, with its dentry if it has one: the entries of an ordered map
-  abbrev pub slots_of : List (NameKey A × Option Dentry) → NameMap (Option Dentry)
-  slots_of [] = []
-  slots_of (e ∷ es) = put_name (slots_of es) (place_of_key e.0) e.1
+-- each name that has room, with its dentry if it has one: the entries of a map in the order of keys
+abbrev pub slots_of : List (Place × Option Dentry) → NameMap (Option Dentry)
+slots_of [] = []
+slots_of (e ∷ es) = put_name (slots_of es) e.0 e.1
 
 -- the names that are bound
 abbrev pub bound_names : NameMap (Option Dentry) → NameMap Dentry

@@ -104,7 +104,7 @@ impl<A: Allocator + Copy> Bindings<A> {
         }
         self.nodes.reserve(self.rows.len() + 1)?;
         let name = name.to_vec(self.alloc)?;
-        add(&mut self.rows, NameKey { directory, name })?;
+        add(&mut self.rows, NameKey::new(directory, name))?;
         Ok(())
     }
 

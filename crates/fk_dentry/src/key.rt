@@ -2,42 +2,165 @@
 ghost use Rattle.std.specs.Prelude.{◌≡◌};
 ghost use Rattle.std.specs.Ordering.{nat_cmp};
 ghost use Rattle.std.specs.Cmp.Lexicographic.{slice_cmp};
+ghost use Rattle.fk_dentry.specs.Keys.{front_of};
 
 use std::alloc::Allocator;
 use std::cmp::Ordering;
 use std::collections::btree_map::Comparable;
+use std::marker::Model;
 
-/// A name of a directory, in the order of the directories and then of the names' bytes.
+/// The number of a name's first eight bytes.
+pub(crate) fn front_of(name: &[u8]) -> u64
+    ensures { result ≡ front_of name.now }
+{
+    let mut front = 0_u64;
+    for byte in &name[..8_usize.min(name.len())] {
+        front = front.wrapping_mul(256).wrapping_add(*byte as u64);
+    }
+    front
+}
+
+/// A name of a directory. Keys stand in the order of the directories, then of the number of the name's first eight bytes, so
+/// that most differ without a look at the name, and then of all its bytes.
 #[derive(Drop)]
-#[derive_where(PartialEq, Eq, PartialOrd, Ord)]
 pub(crate) struct NameKey<A: Allocator> {
-    pub directory: u64,
-    pub name: Vec<u8, A>,
+    directory: u64,
+    front: u64,
+    name: Vec<u8, A>,
+}
+
+impl<A: Allocator> Model for NameKey<A> {
+    ghost use Rattle.std.specs.Prelude.{◌≡◌};
+    ghost use Rattle.fuse_spec.specs.Values.Maps.{Place};
+    ghost use Rattle.fk_dentry.specs.CachedNames.{place_code};
+    ghost use Rattle.fk_dentry.specs.Keys.{front_of};
+
+    ghost Value = { Place };
+
+    ghost coded = { place_code };
+
+    ghost view = { λ k. (k.directory, k.name.items) };
+
+    ghost invariant = { λ k. k.front ≡ front_of k.name.items };
+}
+
+impl<A: Allocator> NameKey<A> {
+    pub(crate) fn new(directory: u64, name: Vec<u8, A>) -> Self
+        ensures { result ≡ (directory, name.items) }
+    {
+        let front = front_of(name.as_slice());
+        NameKey {
+            directory,
+            front,
+            name,
+        }
+    }
+
+    #[inline(always)]
+    pub(crate) fn directory(&self) -> u64
+        ensures { result ≡ self.now.0 }
+    {
+        self.directory
+    }
+
+    #[inline(always)]
+    fn front(&self) -> u64
+        ensures { result ≡ front_of self.now.1 }
+    {
+        self.front
+    }
+
+    #[inline(always)]
+    pub(crate) fn name(&self) -> &[u8]
+        ensures { result.now ≡ self.now.1 }
+    {
+        self.name.as_slice()
+    }
+}
+
+impl<A: Allocator> PartialEq for NameKey<A> {
+    ghost use Rattle.std.specs.Cmp.{eq_by_cmp_equiv, partial_equiv_from_equiv};
+    ghost use Rattle.std.specs.Ordering.{eq_by_cmp};
+    ghost use Rattle.fk_dentry.specs.Keys.{key_cmp, key_total};
+
+    ghost eq = { eq_by_cmp key_cmp };
+
+    ghost laws = { partial_equiv_from_equiv (eq_by_cmp_equiv key_total) };
+
+    fn eq(&self, other: &Self) -> bool {
+        self.cmp(other).is_eq()
+    }
+}
+
+impl<A: Allocator> Eq for NameKey<A> {
+    ghost use Rattle.std.specs.Cmp.{eq_by_cmp_equiv};
+    ghost use Rattle.fk_dentry.specs.Keys.{key_total};
+
+    ghost laws = { eq_by_cmp_equiv key_total };
+}
+
+impl<A: Allocator> PartialOrd for NameKey<A> {
+    ghost use Rattle.std.specs.Prelude.{Some};
+    ghost use Rattle.std.specs.Cmp.{partial_order_from_total};
+    ghost use Rattle.fk_dentry.specs.Keys.{key_cmp, key_total};
+
+    ghost partial_cmp = { λ x y. Some (key_cmp x y) };
+
+    ghost laws = { partial_order_from_total key_total };
+
+    fn partial_cmp(&self, other: &Self) -> Option<Ordering> {
+        Some(self.cmp(other))
+    }
+}
+
+impl<A: Allocator> Ord for NameKey<A> {
+    ghost use Rattle.std.specs.Prelude.{refl};
+    ghost use Rattle.fk_dentry.specs.Keys.{key_cmp, key_total};
+
+    ghost cmp = { key_cmp };
+
+    ghost total = { key_total };
+
+    ghost matches_partial_cmp = { λ x y. refl };
+
+    ghost matches_eq = { λ x y. refl };
+
+    fn cmp(&self, other: &Self) -> Ordering {
+        let lent = LentKey {
+            directory: self.directory,
+            front: self.front,
+            name: self.name.as_slice(),
+        };
+        lent.compare(other)
+    }
 }
 
 /// A name of a directory, borrowed, so that a look-up copies no name.
 #[derive(Clone, Copy)]
 pub(crate) struct LentKey<'a> {
     pub directory: u64,
+    /// The number of the name's first eight bytes.
+    pub front: u64,
     pub name: &'a [u8],
 }
 
 impl<'a, A: Allocator> Comparable<NameKey<A>> for LentKey<'a> {
     ghost use Rattle.std.specs.BTreeMap.Comparable.{le_lt_trans};
-    ghost use Rattle.fuse_spec.specs.Values.Maps.{place_cmp};
-    ghost use Rattle.fuse_spec.proofs.Tables.{place_total};
-    ghost use Rattle.fk_dentry.specs.Keys.{place_of_key};
+    ghost use Rattle.fk_dentry.specs.Keys.{parts_cmp, parts_of, parts_total};
 
-    ghost compare = { λ q k. place_cmp (q.directory, q.name.now) (place_of_key k) };
+    ghost compare = { λ q k. parts_cmp (q.directory, q.front, q.name.now) (parts_of k) };
 
-    ghost respects_cmp = { λ q x y. place_total.congr (q.directory, q.name.now) (place_of_key x) (place_of_key y) };
+    ghost respects_cmp = { λ q x y. parts_total.congr (q.directory, q.front, q.name.now) (parts_of x) (parts_of y) };
 
-    ghost below_greater = { λ q x y. le_lt_trans place_total (q.directory, q.name.now) (place_of_key x)
-        (place_of_key y) };
+    ghost below_greater = { λ q x y. le_lt_trans parts_total (q.directory, q.front, q.name.now) (parts_of x) (parts_of y) };
 
+    #[inline(always)]
     fn compare(&self, key: &NameKey<A>) -> Ordering {
-        match self.directory.cmp(&key.directory) {
-            Ordering::Equal => compare_names(self.name, key.name.as_slice()),
+        match self.directory.cmp(&key.directory()) {
+            Ordering::Equal => match self.front.cmp(&key.front()) {
+                Ordering::Equal => compare_names(self.name, key.name()),
+                apart => apart,
+            },
             apart => apart,
         }
     }

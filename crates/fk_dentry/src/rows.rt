@@ -1,10 +1,9 @@
 //! The names that have room, in an ordered map.
 ghost use Rattle.std.specs.Prelude.{◌≡◌, ℕ, [], None, Some, IfNone, IfSome, IsSome, OnErr, OnOk};
 ghost use Rattle.fuse_spec.specs.Values.Maps.{get_name, put_name, remove_name};
-ghost use Rattle.fk_dentry.specs.Keys.{place_of_key};
 ghost use Rattle.fk_dentry.specs.Rows.{slots_of, bound_in, bound_names};
 
-use crate::key::{LentKey, NameKey};
+use crate::key::{LentKey, NameKey, front_of};
 use fuse_spec::Dentry;
 use std::alloc::{AllocError, Allocator};
 use std::collections::BTreeMap;
@@ -20,7 +19,12 @@ pub(crate) fn slot<A: Allocator>(
 ) -> Option<Option<Dentry>>
     ensures { result ≡ get_name (slots_of rows.now.entries) (directory, name.now) }
 {
-    rows.get(LentKey { directory, name }).copied()
+    rows.get(LentKey {
+        directory,
+        front: front_of(name),
+        name,
+    })
+    .copied()
 }
 
 /// Puts a row without a dentry. Where memory is refused nothing changes.
@@ -30,7 +34,7 @@ pub(crate) fn add<A: Allocator + Copy>(
     key: NameKey<A>,
 ) -> Result<(), AllocError>
     ensures slots { OnOk result (slots_of rows.new.entries
-        ≡ put_name (slots_of rows.old.entries) (place_of_key key) None) }
+        ≡ put_name (slots_of rows.old.entries) key None) }
     ensures unchanged { OnErr result (slots_of rows.new.entries ≡ slots_of rows.old.entries) }
 {
     let _old = rows.insert(key, None)?;
@@ -49,7 +53,11 @@ pub(crate) fn bind<A: Allocator>(
     ensures slots { slots_of rows.new.entries ≡ put_name (slots_of rows.old.entries) (directory, name.now)
         (Some dentry) }
 {
-    match rows.get_mut(LentKey { directory, name }) {
+    match rows.get_mut(LentKey {
+        directory,
+        front: front_of(name),
+        name,
+    }) {
         Some(slot) => slot.replace(dentry),
         // Ruled out: the name has room.
         None => None,
@@ -65,7 +73,11 @@ pub(crate) fn take_out<A: Allocator>(
     ensures dentry { result ≡ bound_in (get_name (slots_of rows.old.entries) (directory, name.now)) }
     ensures slots { slots_of rows.new.entries ≡ remove_name (slots_of rows.old.entries) (directory, name.now) }
 {
-    match rows.remove(LentKey { directory, name }) {
+    match rows.remove(LentKey {
+        directory,
+        front: front_of(name),
+        name,
+    }) {
         Some(dentry) => dentry,
         None => None,
     }
@@ -78,7 +90,7 @@ pub(crate) fn first_bound<A: Allocator>(rows: &Rows<A>) -> Option<(u64, &[u8])>
 {
     for (key, slot) in rows {
         if slot.is_some() {
-            return Some((key.directory, key.name.as_slice()));
+            return Some((key.directory(), key.name()));
         }
     }
     None

@@ -95,7 +95,7 @@ impl<A: Allocator + Copy> Tried<Row, A> for Bindings<A> {
     }
 }
 
-static CALLS: [Row; 34] = [
+static CALLS: [Row; 40] = [
     Row::Find(1, "a", 0, Found::Unknown),
     Row::First(None),
     Row::Bound(1, "a", None),
@@ -131,6 +131,13 @@ static CALLS: [Row; 34] = [
     Row::Bind(6, "a name that is not short", Some(7), 1),
     Row::Bind(6, "another one", Some(7), 1),
     Row::Bind(6, "and a third", Some(2), 1),
+    // alike in their first eight bytes
+    Row::Bind(6, "a name that is long", Some(1), 1),
+    Row::Find(6, "a name that is not short", 0, Found::Node(7)),
+    Row::Find(6, "a name that is long", 0, Found::Node(1)),
+    Row::Find(6, "a name t", 0, Found::Unknown),
+    Row::Find(6, "a name that", 0, Found::Unknown),
+    Row::Remove(6, "a name that is not", false),
     Row::Named(0b1111_0110),
     Row::Clear,
     Row::First(None),

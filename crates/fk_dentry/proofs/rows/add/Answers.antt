@@ -1,9 +1,12 @@
-use Rattle.std.proofs.Common.{None}
-use Rattle.fk_dentry.specs.Keys.{place_of_key}
-use Rattle.fk_dentry.proofs.KeyedRows.{slots-put}
+use Rattle.std.proofs.Common.{None, refl}
+use Rattle.fk_dentry.specs.Keys.{front_of}
+use Rattle.fk_dentry.proofs.KeyedRows.{keeps_by_parts, slots-put, under_parts}
 use Rattle.fk_dentry.proofs.rows.add.Goals as goal
 
 pub returns-clause-slots : goal.returns-clause-slots
 returns-clause-slots g c =
     let updates = c.in_ok-_old.ensures.updates in
-    slots-put c.args.rows.now.entries _ (place_of_key c.args.key) None updates.1 updates.3
+    let old = c.args.rows.now.entries in
+    let key = c.args.key in
+    slots-put old _ key None (under_parts _ key (front_of key.1) refl _ updates.1)
+    (keeps_by_parts key (front_of key.1) refl old _ updates.3)

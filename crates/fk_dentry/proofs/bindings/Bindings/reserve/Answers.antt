@@ -13,7 +13,8 @@ invariant_of-self-2 g c =
     let key : Place = (c.args.directory, c.args.name.now) in
     let none = sym c.slot.ensures ∙ unfound c.slot.result (sym c.is_some.ensures ∙ c.if-is_some.false) in
     let copied = c.in_ok-name.ensures.items_if_clones_equal (λ x y e. e) in
-    let after = c.in_ok-add.ensures.slots ∙ ap (λ n. put_name slots (c.args.directory, n) None) copied in
+    let after = c.in_ok-add.ensures.slots ∙ ap (λ (p : Place). put_name slots p None) c.new.ensures
+    ∙ ap (λ n. put_name slots (c.args.directory, n) None) copied in
     let nodes = c.reserve.new.self in
     let few = few_slots c.self.inside.rows.entries in
     let fits : length slots + 1 + (length slots + 1) ≤ nodes.most =
@@ -28,7 +29,8 @@ returns-clause-names g c =
     let key : Place = (c.args.directory, c.args.name.now) in
     let none = sym c.slot.ensures ∙ unfound c.slot.result (sym c.is_some.ensures ∙ c.if-is_some.false) in
     let copied = c.in_ok-name.ensures.items_if_clones_equal (λ x y e. e) in
-    let after = c.in_ok-add.ensures.slots ∙ ap (λ n. put_name slots (c.args.directory, n) None) copied in
+    let after = c.in_ok-add.ensures.slots ∙ ap (λ (p : Place). put_name slots p None) c.new.ensures
+    ∙ ap (λ n. put_name slots (c.args.directory, n) None) copied in
     rw (← c.self.view_is) (ap bound_names after ∙ names-room slots key c.self.invariant.sorted none)
 
 pub returns-clause-room : goal.returns-clause-room
@@ -36,7 +38,8 @@ returns-clause-room g c =
     let slots = slots_of c.self.inside.rows.entries in
     let key : Place = (c.args.directory, c.args.name.now) in
     let copied = c.in_ok-name.ensures.items_if_clones_equal (λ x y e. e) in
-    let after = c.in_ok-add.ensures.slots ∙ ap (λ n. put_name slots (c.args.directory, n) None) copied in
+    let after = c.in_ok-add.ensures.slots ∙ ap (λ (p : Place). put_name slots p None) c.new.ensures
+    ∙ ap (λ n. put_name slots (c.args.directory, n) None) copied in
     ap (λ s. is_some (get_name s key)) after ∙ room_there slots key None
 
 pub returns-clause-kept : goal.returns-clause-kept
@@ -44,5 +47,6 @@ returns-clause-kept g c =
     let slots = slots_of c.self.inside.rows.entries in
     let key : Place = (c.args.directory, c.args.name.now) in
     let copied = c.in_ok-name.ensures.items_if_clones_equal (λ x y e. e) in
-    let after = c.in_ok-add.ensures.slots ∙ ap (λ n. put_name slots (c.args.directory, n) None) copied in
+    let after = c.in_ok-add.ensures.slots ∙ ap (λ (p : Place). put_name slots p None) c.new.ensures
+    ∙ ap (λ n. put_name slots (c.args.directory, n) None) copied in
     rw (← c.self.view_is) (λ other some. ap (λ s. is_some (get_name s other)) after ∙ room-put slots key None other some)
