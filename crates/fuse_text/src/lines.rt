@@ -50,7 +50,7 @@ pub fn next_line<A: Allocator, R: BufRead>(
     }
 }
 
-/// Reads the next line so, and says whether there was one: none follows the last line feed.
+/// Reads the next line as `next_line` does, and says whether there was one: none follows the last line feed.
 ///
 /// # Errors
 ///

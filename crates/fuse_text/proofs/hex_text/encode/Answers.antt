@@ -1,0 +1,12 @@
+use Rattle.std.proofs.Common.{arith}
+use Rattle.hex.specs.Hex.{lower_digits}
+use Rattle.hex.proofs.Pairs.{encode_step, encode_done}
+use Rattle.fuse_text.proofs.hex_text.encode.Goals as goal
+
+pub loop-i-preserved : goal.loop-i-preserved
+loop-i-preserved c =
+    encode_step lower_digits c.args.bytes.now c.loop-i.text c.loop-i.i _ _ (omega arith) (omega arith) c.digit_of.ensures
+    c.digit_of-in-loop-i.ensures c.loop-i.invariant
+
+pub returns : goal.returns
+returns c = encode_done _ _ _ c.loop-i.i (omega arith) (omega arith) c.loop-i.invariant
