@@ -1,7 +1,6 @@
 -- Where each reply is accepted and the server has no fault, each was taken as the kernel took it.
-use Rattle.std.proofs.Common.{◌≡◌, inl, inr, ℕ, suc, ◌%◌, ◌≤◌, ◌==◌, Bool, true, false, List, [], ◌∷◌, ◌++◌, Option, None, append_assoc, append-nil, filter, nat_eq, take, refl, sym, ◌∙◌, ap, subst, arith}
+use Rattle.std.proofs.Common.{◌≡◌, inl, inr, ℕ, suc, ◌%◌, ◌≤◌, ◌==◌, Bool, true, false, List, [], ◌∷◌, ◌++◌, Option, None, append_assoc, append-nil, take, refl, sym, ◌∙◌, ap, subst, arith}
 use Rattle.std.specs.Prelude.{◌≢◌, MatchBool, if◌then◌else◌}
-use Rattle.std.specs.Map.{lookup}
 use Rattle.std.proofs.lemmas.Bool.{false≢true}
 use Rattle.std.proofs.lemmas.Bool.Decides.{nat_tests}
 use Rattle.fuse_device.specs.Transfers.{Transfer}
@@ -29,10 +28,9 @@ use Rattle.fuse_sessions.specs.declared.transfer.Transfer.TheVariants as said
 use Rattle.fuse_sessions.specs.Faults.{Breaks, HasFaultAt}
 use Rattle.fuse_sessions.specs.Parties.{party_of}
 use Rattle.fuse_sessions.specs.Frames.{IsNotified, IsReplyTo, IsWritten, Lead, eintr, error_in, interrupt_acts, is_to_interrupt, nothing_known, number_in, replied}
-use Rattle.fuse_sessions.specs.Numbers.{was_forget, was_read}
 use Rattle.fuse_sessions.specs.Sessions.{Session}
-use Rattle.fuse_sessions.specs.Waiting.{waiting as waiting_in, waits}
-use Rattle.fuse_sessions.proofs.Laws.{waiting-more}
+use Rattle.fuse_sessions.specs.Waiting.{waits}
+use Rattle.fuse_sessions.proofs.ReplyLaws.{unawaited_reply, waits_past_interrupted, waits_past_taking}
 use Rattle.driven_sessions.specs.Driven.{IsRightlyServed, IsTakenWhereServed}
 use Rattle.driven_sessions.specs.Taken.{AllAccepted, AreTaken, HasHeader, IsTaken, Outcome, aside, outcomes_of, waiting, written}
 use Rattle.driven_sessions.proofs.Leading.{AreFree}
@@ -81,19 +79,10 @@ free_last s (a ∷ xs) ys free = subst (λ (t : Session). AreFree is_of_server t
 
 -- ---- a reply to what does not wait
 
-all_kept : (xs : List (ℕ × Asked)) → filter (λ (e : ℕ × Asked). true) xs ++ [] ≡ xs
-all_kept [] = refl
-all_kept (x ∷ xs) = ap (λ (ys : List (ℕ × Asked)). x ∷ ys) (all_kept xs)
-
 -- It is a fault of the server.
 faulty_reply : (s : Session) (u : ℕ) (t : Taken) → waits s u ≡ None
     → ((f : Fault) → Breaks s (act.Replies u t) f → is_of_server f ≡ true → ⊥) → ⊥
-faulty_reply s u t none free = by (was_forget s u) (was_read s u) refl refl
-  where
-    by : (forget read : Bool) → was_forget s u ≡ forget → was_read s u ≡ read → ⊥
-    by true read forgets reads = free fault.ReplyToForget (none, forgets) refl
-    by false true forgets reads = free fault.SecondReply (none, forgets, reads) refl
-    by false false forgets reads = free fault.ReplyToNothing (none, reads) refl
+faulty_reply s u t none free = unawaited_reply s u t none (λ f breaks is. free f breaks (ap is_server is))
 
 module _ (k : Known) (s : Session) (bytes : List ℕ) (acts : List Act) (later : Known) (free : AreFree is_of_server s acts) where
   replied_none : waits s (number_in bytes) ≡ None → acts ≡ replied bytes taken.Accepted fit.MayFit → ⊥
@@ -104,13 +93,12 @@ module _ (k : Known) (s : Session) (bytes : List ℕ) (acts : List Act) (later :
       by true free =
           let before : Session = s ++ act.Interrupted (number_in bytes) ∷ [] in
           faulty_reply (before ++ act.Takes (number_in bytes) taken.Accepted fit.MayFit ∷ []) (number_in bytes) taken.Accepted
-          (ap (lookup (nat_eq (number_in bytes))) (waiting-more before (act.Takes (number_in bytes) taken.Accepted fit.MayFit)
-          ∙ all_kept (waiting_in before) ∙ waiting-more s (act.Interrupted (number_in bytes)) ∙ all_kept (waiting_in s)) ∙ none)
+          (waits_past_taking before (number_in bytes) (number_in bytes) taken.Accepted fit.MayFit
+          ∙ waits_past_interrupted s (number_in bytes) (number_in bytes) ∙ none)
           free.1.1.0
       by false free =
           faulty_reply (s ++ act.Takes (number_in bytes) taken.Accepted fit.MayFit ∷ []) (number_in bytes) taken.Accepted
-          (ap (lookup (nat_eq (number_in bytes))) (waiting-more s (act.Takes (number_in bytes) taken.Accepted fit.MayFit)
-          ∙ all_kept (waiting_in s)) ∙ none) free.1.0
+          (waits_past_taking s (number_in bytes) (number_in bytes) taken.Accepted fit.MayFit ∙ none) free.1.0
 
   positive : (kind : NotificationKind) → (1 ≤ code_of kind) × (code_of kind ≤ 9)
   positive kind.Poll = (omega arith, omega arith)

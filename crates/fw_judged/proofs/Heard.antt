@@ -1,7 +1,6 @@
 -- A reply of which nothing is heard is taken as accepted, or the server has a fault in it.
-use Rattle.std.proofs.Common.{◌≡◌, inl, inr, ℕ, ◌-◌, ◌==◌, ◌≤◌, Bool, true, false, List, [], ◌∷◌, ◌++◌, Option, Some, None, length, append-nil, filter, nat_eq, nat_le, nat_lt, slice_get, take, refl, sym, ◌∙◌, ap, subst, arith}
+use Rattle.std.proofs.Common.{◌≡◌, inl, inr, ℕ, ◌-◌, ◌==◌, ◌≤◌, Bool, true, false, List, [], ◌∷◌, ◌++◌, Option, Some, None, length, append-nil, nat_le, nat_lt, slice_get, take, refl, sym, ◌∙◌, ap, subst, arith}
 use Rattle.std.specs.Prelude.{MatchBool, MatchOption, if◌then◌else◌}
-use Rattle.std.specs.Map.{lookup}
 use Rattle.std.proofs.lemmas.Bool.Decides.{nat_tests}
 use Rattle.fk_fields.specs.Fields.{number_at}
 use Rattle.fuse_protocol.specs.declared.agreed.Unjudged.{Unjudged}
@@ -24,11 +23,10 @@ use Rattle.fuse_sessions.specs.declared.known.Known.{Known}
 use Rattle.fuse_sessions.specs.Faults.{Breaks, HasFaultAt}
 use Rattle.fuse_sessions.specs.Fits.{fit_in, fit_of}
 use Rattle.fuse_sessions.specs.Frames.{IsNotified, IsReplyBy, IsReplyOf, IsReplyTo, IsWritten, eintr, error_in, interrupt_acts, is_resend, is_to_interrupt, number_in, replied, said_acts}
-use Rattle.fuse_sessions.specs.Numbers.{was_forget, was_read}
 use Rattle.fuse_sessions.specs.Parties.{party_of}
 use Rattle.fuse_sessions.specs.Sessions.{Session}
-use Rattle.fuse_sessions.specs.Waiting.{waiting, waits}
-use Rattle.fuse_sessions.proofs.Laws.{waiting-more}
+use Rattle.fuse_sessions.specs.Waiting.{waits}
+use Rattle.fuse_sessions.proofs.ReplyLaws.{unawaited_reply, waits_past_taking}
 use Rattle.fw_judged.specs.Accepted.{AcceptedWhereServed}
 use Rattle.fw_judged.specs.Judged.{Seen}
 use Rattle.fw_judged.specs.Sides.{reading, taking, taking_by}
@@ -97,10 +95,6 @@ replied_taking x bytes f more = by (error_in bytes == eintr)
     by true = refl
     by false = refl
 
-all_kept : (xs : List (ℕ × Asked)) → filter (λ (e : ℕ × Asked). true) xs ++ [] ≡ xs
-all_kept [] = refl
-all_kept (x ∷ xs) = ap (λ (ys : List (ℕ × Asked)). x ∷ ys) (all_kept xs)
-
 -- ---- a frame that is heard
 
 module _ (s : Seen) (bytes : List ℕ) (t : Taken) (acts : List Act) (later : Known)
@@ -112,13 +106,11 @@ module _ (s : Seen) (bytes : List ℕ) (t : Taken) (acts : List Act) (later : Kn
   -- A reply for which nothing waits is a fault of the server.
   nothing_waits : (u : ℕ) → waits s.acts u ≡ None
       → acts ≡ act.Takes u taken.NoEntry fit.MayFit ∷ act.Replies u taken.NoEntry ∷ [] → ⊥
-  nothing_waits u free same = by (was_forget before u) (was_read before u) refl refl
+  nothing_waits u free same =
+      unawaited_reply before u taken.NoEntry (waits_past_taking s.acts u u taken.NoEntry fit.MayFit ∙ free) at
     where
       before : Session
       before = s.acts ++ act.Takes u taken.NoEntry fit.MayFit ∷ []
-
-      waits_not : waits before u ≡ None
-      waits_not = ap (lookup (nat_eq u)) (waiting-more s.acts (act.Takes u taken.NoEntry fit.MayFit) ∙ all_kept (waiting s.acts)) ∙ free
 
       at : (f : Fault) → Breaks before (act.Replies u taken.NoEntry) f → party_of f ≡ Server → ⊥
       at f breaks = none 1 f (record {
@@ -126,11 +118,6 @@ module _ (s : Seen) (bytes : List ℕ) (t : Taken) (acts : List Act) (later : Kn
         stands = ap (λ (l : List Act). slice_get l 1) same;
         breaks = subst (λ (l : List Act). Breaks (s.acts ++ l) (act.Replies u taken.NoEntry) f) (sym (ap (take 1) same)) breaks;
       })
-
-      by : (forget read : Bool) → was_forget before u ≡ forget → was_read before u ≡ read → ⊥
-      by true read forgets reads = at fault.ReplyToForget (waits_not, forgets) refl
-      by false true forgets reads = at fault.SecondReply (waits_not, forgets, reads) refl
-      by false false forgets reads = at fault.ReplyToNothing (waits_not, reads) refl
 
   module _ (heard : List Act) (next : Known) where
     notified : (x : Option Asked) → IsNotified (reading s.known) bytes taken.Accepted heard next → t ≡ taking_by x heard

@@ -18,6 +18,7 @@ use Rattle.fuse_sessions.specs.Numbers.{asks_under, reads, was_read, has_several
 use Rattle.fuse_sessions.specs.Faults.{BreaksReply, BreaksReplyToInterrupt, BreaksInterrupt}
 use Rattle.fuse_sessions.specs.Frames.{number_in, error_in, eagain, is_to_interrupt, of_version, of_offered, AreRequestActs, IsOffered}
 use Rattle.fuse_sessions.specs.UnreadRequests.{opcode_in, unique_in, takes_no_reply}
+use Rattle.fuse_sessions.proofs.ReplyLaws.{all_kept}
 use Rattle.fuse_sessions.proofs.Laws.{since-more, sum-more, waiting-more}
 use Rattle.joined_sessions.proofs.Behind.{asked_if_waits}
 use Rattle.served_sessions.specs.Exchanges.{IsAnswer}
@@ -30,7 +31,7 @@ use Rattle.served_sessions.proofs.Kept.{Kept, any_before, threads_alike}
 use Rattle.served_sessions.proofs.Requested.{interrupt_does}
 use Rattle.served_sessions.proofs.Replied.{reply_read}
 use Rattle.served_sessions.proofs.Told.{no_answer, told_free}
-use Rattle.served_sessions.proofs.Written.{Keeps, all_kept}
+use Rattle.served_sessions.proofs.Written.{Keeps}
 
 pub numbers_within : (f : Fault) → is_of_numbers f ≡ true → is_of_frames f ≡ true
 numbers_within fault.ReplyToNothing is = refl

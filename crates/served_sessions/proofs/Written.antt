@@ -1,5 +1,5 @@
 -- What a frame that a server wrote shows by its header, by its number, and by what INIT's reply agrees on.
-use Rattle.std.proofs.Common.{◌≡◌, inl, inr, ℕ, ◌-◌, ◌==◌, Bool, true, false, List, [], ◌∷◌, ◌++◌, Option, Some, None, append-nil, refl, sym, ◌∙◌, ap, subst, drop, filter, flat_map, nat_eq, bit_and, if◌then◌else◌}
+use Rattle.std.proofs.Common.{◌≡◌, inl, inr, ℕ, ◌-◌, ◌==◌, Bool, true, false, List, [], ◌∷◌, ◌++◌, Option, Some, None, append-nil, refl, sym, ◌∙◌, ap, subst, drop, flat_map, nat_eq, bit_and, if◌then◌else◌}
 use Rattle.std.specs.Prelude.{MatchBool}
 use Rattle.std.specs.List.{list_all}
 use Rattle.std.specs.Map.{lookup}
@@ -29,24 +29,13 @@ use Rattle.fuse_sessions.specs.Frames.{number_in, error_in, is_resend, eagain, e
 use Rattle.fuse_sessions.specs.Fits.{fit_in, fit_of_another}
 use Rattle.fuse_sessions.specs.ReplyActs.{answer_acts, record_acts}
 use Rattle.fuse_sessions.proofs.Laws.{waiting-more}
+use Rattle.fuse_sessions.proofs.ReplyLaws.{all_kept, waits_past_interrupted, waits_past_taking}
 use Rattle.served_sessions.specs.Exchanges.{IsPlainInit}
 use Rattle.served_sessions.proofs.Acts.{either, each_of, is_beside, is_of_frames}
 use Rattle.served_sessions.proofs.Free.{beside_free, free_append, AreFree}
 use Rattle.served_sessions.proofs.Told.{answer_told, is_told, records_told}
 
 -- ---- what waits stays
-
-pub all_kept : (xs : List (ℕ × Asked)) → filter (λ (e : ℕ × Asked). true) xs ++ [] ≡ xs
-all_kept [] = refl
-all_kept (x ∷ xs) = ap (λ (ys : List (ℕ × Asked)). x ∷ ys) (all_kept xs)
-
-waits_past_taking : (s : Session) (u n : ℕ) (t : Taken) (body : Fit)
-    → waits (s ++ act.Takes n t body ∷ []) u ≡ waits s u
-waits_past_taking s u n t body =
-    ap (lookup (nat_eq u)) (waiting-more s (act.Takes n t body) ∙ all_kept (waiting s))
-
-waits_past_interrupted : (s : Session) (u n : ℕ) → waits (s ++ act.Interrupted n ∷ []) u ≡ waits s u
-waits_past_interrupted s u n = ap (lookup (nat_eq u)) (waiting-more s (act.Interrupted n) ∙ all_kept (waiting s))
 
 waits_past_faulty : (s : Session) (u : ℕ) (f : Fault) → waits (s ++ act.Faulty f ∷ []) u ≡ waits s u
 waits_past_faulty s u f = ap (lookup (nat_eq u)) (waiting-more s (act.Faulty f) ∙ all_kept (waiting s))
