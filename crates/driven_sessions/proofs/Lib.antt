@@ -54,4 +54,5 @@ mod Listing
 mod Directories
 mod Uncounted
 mod Served
+pub mod Mounts
 pub mod Rules

@@ -1,11 +1,11 @@
 -- A kernel that is driven keeps the rules.
 use Rattle.std.proofs.Common.{Bool, List}
 use Rattle.fuse_device.specs.Transfers.{Transfer}
-use Rattle.fk_drive.specs.Driving.{Driven, DrivesOver, first_driven}
+use Rattle.fk_drive.specs.Driving.{Driven, Drives, DrivesOver, first_driven}
 use Rattle.fk_drive_theorem.proofs.RunsAnswer.{run_once}
 use Rattle.fk_drive_theorem.proofs.RunsTake.{run_none_again, run_takes_once}
 use Rattle.fk_drive_theorem.proofs.RunsTally.{run_forgets}
-use Rattle.driven_sessions.specs.Rules.{KeepsRules}
+use Rattle.driven_sessions.specs.Rules.{KeepsRules, KeepsRulesIn}
 use Rattle.driven_sessions.proofs.BeforeInit.{early_requests_never}
 use Rattle.driven_sessions.proofs.Counted.{lookups_are_counted}
 use Rattle.driven_sessions.proofs.Forgotten.{empty_forgets_never}
@@ -21,13 +21,8 @@ use Rattle.driven_sessions.proofs.Served.{taken_where_served}
 use Rattle.driven_sessions.proofs.Single.{interrupt_numbers_never}
 use Rattle.driven_sessions.proofs.Uncounted.{uncounted_never}
 
-pub keeps_rules : {D : Type 0} (logs : D → D → List Transfer → Type 0) (before after : D) (asks : Bool)
-    → (new : Driven) × DrivesOver logs before after (first_driven asks) new → KeepsRules logs before after asks
-keeps_rules logs before after asks (new, (log, over, run)) = record {
-  new = new;
-  log = log;
-  over = over;
-  run = run;
+pub keeps_in : (asks : Bool) (log : List Transfer) (new : Driven) (run : Drives (first_driven asks) log new) → KeepsRulesIn run
+keeps_in asks log new run = record {
   odd_numbers = odd_numbers_never asks log new run;
   resends = resends_never asks log new run;
   one_thread = one_thread_never asks log new run;
@@ -48,3 +43,8 @@ keeps_rules logs before after asks (new, (log, over, run)) = record {
       run_takes_once asks first old was number mid takes rest new after no_mount;
   forgotten_as_gathered = λ node low. run_forgets node low asks log new run;
 }
+
+pub keeps_rules : {D : Type 0} (logs : D → D → List Transfer → Type 0) (before after : D) (asks : Bool)
+    → (new : Driven) × DrivesOver logs before after (first_driven asks) new → KeepsRules logs before after asks
+keeps_rules logs before after asks (new, (log, over, run)) =
+    record { new = new; log = log; over = over; run = run; rules = keeps_in asks log new run }

@@ -9,13 +9,9 @@ use Rattle.driven_sessions.specs.Counted.{CountsLookups}
 use Rattle.driven_sessions.specs.Driven.{IsFreeOf, IsFreeWhereCarried, IsFreeWhereTaken, IsFreeWhereTakenAndCarried, IsOneMount, IsTakenWhereServed}
 use Rattle.driven_sessions.specs.Groups.{is_of_early_requests, is_of_empty_forgets, is_of_interrupt_numbers, is_of_large_forgets, is_of_large_writes, is_of_late_inits, is_of_odd_numbers, is_of_one_thread, is_of_resends, is_of_shapes, is_of_uncounted_nodes, is_of_used_numbers}
 
--- From the one state of a device to the other a run drove a kernel over it, no session of what went over the device shows a
--- fault of these groups, and the laws of driven runs hold of it.
-pub record KeepsRules {D : Type 0} (logs : D → D → List Transfer → Type 0) (before after : D) (asks : Bool) : Type 0 where
-  pub new : Driven
-  pub log : List Transfer
-  pub over : logs before after log
-  pub run : Drives (first_driven asks) log new
+-- No session of what goes over the device in this run shows a fault of these groups, and the laws of driven runs hold of it.
+pub record KeepsRulesIn {asks : Bool} {log : List Transfer} {new : Driven} (run : Drives (first_driven asks) log new)
+    : Type 0 where
   pub odd_numbers : IsFreeOf is_of_odd_numbers log
   pub resends : IsFreeOf is_of_resends log
   pub one_thread : IsFreeOf is_of_one_thread log
@@ -45,3 +41,11 @@ pub record KeepsRules {D : Type 0} (logs : D → D → List Transfer → Type 0)
       → mounts_in after ≡ 0 → TakesNone number new.kernel
   -- A node other than the root is forgotten with exactly the count that was gathered.
   pub forgotten_as_gathered : (node : ℕ) → 2 ≤ node → ForgottenAsGathered node new.kernel (tally_of node run)
+
+-- From the one state of a device to the other a run drove a kernel over it, which keeps the rules in it.
+pub record KeepsRules {D : Type 0} (logs : D → D → List Transfer → Type 0) (before after : D) (asks : Bool) : Type 0 where
+  pub new : Driven
+  pub log : List Transfer
+  pub over : logs before after log
+  pub run : Drives (first_driven asks) log new
+  pub rules : KeepsRulesIn run

@@ -1,14 +1,11 @@
 -- An event of the kernel alone, in a world.
 use Rattle.std.specs.Prelude.{IfErr, IfOk, OnErr}
-use Rattle.std.proofs.Common.{subst, ◌≡◌, ℕ, false, [], List, Option, Some, None, Result, Ok, Err, inl, refl, sym}
+use Rattle.std.proofs.Common.{subst, ◌≡◌, ℕ, false, [], Result, Ok, Err, inl, refl, sym}
 use Rattle.fuse_spec.specs.declared.Refusal.{Refusal}
-use Rattle.fuse_spec.specs.declared.ReplyResult.{ReplyResult}
 use Rattle.fuse_spec.specs.Kernel.Kernel.{Kernel}
-use Rattle.fuse_spec.specs.Kernel.Messages.{Request}
-use Rattle.fuse_spec.specs.Server.Server.{Server}
 use Rattle.fuse_spec.specs.World.Events as machine
 use Rattle.fuse_spec.specs.World.Steps.{RefusedWith, is_past}
-use Rattle.fuse_spec.specs.World.Worlds.{Sent, World}
+use Rattle.fuse_spec.specs.World.Worlds.{World}
 use Rattle.fuse_theorem.specs.SoundWorlds.{IsSoundWorld}
 use Rattle.fk_syscalls.specs.Values.{call_of}
 use Rattle.fk_kernel.specs.Refused.{begin_refusal}

@@ -6,6 +6,7 @@ ghost use Rattle.std.specs.Vec.{vec_len, vec_capacity};
 ghost use Rattle.fuse_spec.specs.World.Records.{answers_of, collected};
 ghost use Rattle.fuse_theorem.specs.Recorded.{Recorded};
 ghost use Rattle.world_sessions.specs.KernelRules.{SessionGoesOn};
+ghost use Rattle.world_sessions.specs.WorldTransfers.{mounts_among, mounts_at};
 ghost use Rattle.fw_world.specs.declared.record.Record.{Record as RecordValue};
 ghost use Rattle.fw_world.specs.Values.{event_of, run_record_of};
 ghost use Rattle.fw_world.specs.Runs.{RunsAs, RunsEach, RunsOne, calls_not_over, events_run};
@@ -19,7 +20,8 @@ use std::alloc::Allocator;
 
 /// Runs the events one after another. The records of each are its outcome or refusal, and then the answers that it
 /// gave, in rising call number. This carries the headline: whatever the events, there is a run of a plain world with
-/// these records. What an outcome says of its event's frame is so in the world after the event.
+/// these records. What an outcome says of its event's frame is so in the world after the event. What goes over the device in
+/// it goes on with what did before, and in the whole the kernel keeps the rules of sessions.
 ///
 /// # Errors
 ///
@@ -34,7 +36,8 @@ pub fn run<T: Tables>(
     ensures ran { (added : List (RecordValue T.Heap)) × (records.new.items ≡ records.old.items ++ added)
         × RunsAs world.old.sides (map event_of (events_run result events.now)) (map run_record_of added) world.new.sides
         × RunsEach RunsOne world.old.sides (events_run result events.now) added world.new.sides }
-    ensures session { SessionGoesOn world.old.sides world.new.sides }
+    ensures session { SessionGoesOn (mounts_among (map event_of (events_run result events.now))) world.old.sides
+        world.new.sides }
     ensures err { IfErr result (λ k. k < length events.now) }
     ensures full { OnErr result (vec_capacity records.old < vec_len records.old
         + calls_not_over world.old.sides + 2 * length events.now) }
@@ -73,7 +76,7 @@ fn run_one<T: Tables>(
         × (records.new.items ≡ records.old.items ++ added)
         × Recorded world.old.sides (event_of event.now ∷ []) (map run_record_of added) world.new.sides
         × RunsOne world.old.sides event.now added world.new.sides }
-    ensures session { SessionGoesOn world.old.sides world.new.sides }
+    ensures session { SessionGoesOn (mounts_at (event_of event.now)) world.old.sides world.new.sides }
     ensures room { IsTrue result →
         vec_len records.new + calls_not_over world.new.sides + vec_capacity records.old
         ≤ vec_len records.old + calls_not_over world.old.sides + 2 + vec_capacity records.new }
@@ -103,7 +106,7 @@ pub(crate) fn collect_all<T: Tables>(
 )
     requires { vec_len records.old + length world.old.kernel.vfs.answers ≤ vec_capacity records.old }
     ensures world { world.new ≡ collected world.old }
-    ensures session { SessionGoesOn world.old world.new }
+    ensures session { SessionGoesOn 0 world.old world.new }
     ensures records { (added : List (RecordValue T.Heap)) × (records.new.items ≡ records.old.items ++ added)
         × (map run_record_of added ≡ answers_of world.old.kernel.vfs.answers) }
     ensures len { vec_len records.new ≡ vec_len records.old + length world.old.kernel.vfs.answers }

@@ -11,6 +11,7 @@ ghost use Rattle.fuse_spec.specs.declared.Refusal.TheVariants.{LinkLost};
 ghost use Rattle.fuse_spec.specs.Claim.Alike.{Alike};
 ghost use Rattle.fuse_spec.specs.Claim.Runs.{plain_handed_out};
 ghost use Rattle.world_sessions.specs.KernelRules.{SessionGoesOn};
+ghost use Rattle.world_sessions.specs.WorldTransfers.{mounts_at};
 ghost use Rattle.fk_syscalls.specs.Values.{answer_of};
 ghost use Rattle.fw_link.specs.Carrying.{IsEmpty};
 ghost use Rattle.fuse_theorem.specs.SoundWorlds.{IsSoundWorld};
@@ -140,7 +141,7 @@ impl<T: Tables, L: Link + Drop> SessionOf<T, L> {
         ensures lost_before { IfErr result (λ refusal. refusal ≡ LinkLost → self.old.is_lost ≡ true) }
         ensures refines { IfOk result (λ outcome. StepsOver self.old.world (event_of event.now) (outcome_of outcome)
             (session_of self.new.world self.new.is_lost)) }
-        ensures session { SessionGoesOn self.old.world self.new.world }
+        ensures session { SessionGoesOn (mounts_at (event_of event.now)) self.old.world self.new.world }
     {
         self.world.lemma_protocol();
         self.last = None;
@@ -200,7 +201,7 @@ impl<T: Tables, L: Link + Drop> SessionOf<T, L> {
         ensures last { self.new.last ≡ self.old.last }
         ensures refines { IfSome result (λ r. (p : Plain) → Alike self.old.world p →
             Alike self.new.world (plain_handed_out p r.0)) }
-        ensures session { SessionGoesOn self.old.world self.new.world }
+        ensures session { SessionGoesOn 0 self.old.world self.new.world }
     {
         self.world.collect()
     }

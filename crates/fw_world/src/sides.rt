@@ -12,6 +12,7 @@ ghost use Rattle.fuse_spec.specs.Claim.Runs.{plain_handed_out};
 ghost use Rattle.fuse_spec.specs.declared.Refusal.TheVariants.{NoMemory};
 ghost use Rattle.fuse_theorem.specs.SoundWorlds.{IsSoundWorld};
 ghost use Rattle.world_sessions.specs.KernelRules.{SessionGoesOn};
+ghost use Rattle.world_sessions.specs.WorldTransfers.{mounts_at};
 ghost use Rattle.fk_syscalls.specs.Values.{answer_of};
 ghost use Rattle.fw_world.specs.Frames.{IsFrameOf, IsShown};
 ghost use Rattle.fk_lookup_count.specs.CountedNodes.{listed_counts};
@@ -125,7 +126,7 @@ impl<T: Tables> SidesOf<T> {
     pub fn step(&mut self, event: &Event<'_>) -> Result<Outcome, Refusal>
         ensures step { IsStep self.old (event_of event.now) result self.new }
         ensures refines { IfOk result (λ outcome. StepsAs self.old (event_of event.now) (outcome_of outcome) self.new) }
-        ensures session { SessionGoesOn self.old self.new }
+        ensures session { SessionGoesOn (mounts_at (event_of event.now)) self.old self.new }
     {
         self.lemma_protocol();
         self.dispatch(event)
@@ -163,7 +164,7 @@ impl<T: Tables> SidesOf<T> {
         ensures taken { IfSome result (λ r. self.new ≡ call_collected self.old r.0) }
         ensures refines { IfSome result (λ r. (p : Plain) → Alike self.old p
             → Alike self.new (plain_handed_out p r.0)) }
-        ensures session { SessionGoesOn self.old self.new }
+        ensures session { SessionGoesOn 0 self.old self.new }
     {
         self.lemma_protocol();
         self.kernel.collect()

@@ -12,6 +12,7 @@ ghost use Rattle.fuse_spec.specs.Claim.Runs.{plain_handed_out};
 ghost use Rattle.fuse_spec.specs.declared.Refusal.TheVariants.{NoMemory};
 ghost use Rattle.fuse_theorem.specs.SoundWorlds.{IsSoundWorld};
 ghost use Rattle.world_sessions.specs.KernelRules.{SessionGoesOn};
+ghost use Rattle.world_sessions.specs.WorldTransfers.{mounts_at};
 ghost use Rattle.fk_syscalls.specs.Values.{answer_of};
 ghost use Rattle.fw_world.specs.Frames.{IsFrameOf, IsLastPut, IsShown};
 ghost use Rattle.fk_lookup_count.specs.CountedNodes.{listed_counts};
@@ -81,7 +82,7 @@ impl<T: Tables> WorldOf<T> {
         ensures last { self.new.last ≡ result_ok result }
         ensures refines { IfOk result (λ outcome. StepsAs self.old.sides (event_of event.now)
             (outcome_of outcome) self.new.sides) }
-        ensures session { SessionGoesOn self.old.sides self.new.sides }
+        ensures session { SessionGoesOn (mounts_at (event_of event.now)) self.old.sides self.new.sides }
     {
         let result = self.sides.step(event);
         self.last = match result {
@@ -100,7 +101,7 @@ impl<T: Tables> WorldOf<T> {
         ensures last { self.new.last ≡ self.old.last }
         ensures refines { IfSome result (λ r. (p : Plain) → Alike self.old.sides p
             → Alike self.new.sides (plain_handed_out p r.0)) }
-        ensures session { SessionGoesOn self.old.sides self.new.sides }
+        ensures session { SessionGoesOn 0 self.old.sides self.new.sides }
     {
         self.sides.collect()
     }

@@ -1,5 +1,5 @@
 -- What is read from the kernel of a world is read from a driven kernel, and sent.
-use Rattle.std.proofs.Common.{◌≡◌, ℕ, Bool, true, false, not, ◌&&◌, cond, List, [], ◌∷◌, ◌++◌, length, take, Option, Some, None, nat_eq, append-nil, refl, ap, subst, ◌∙◌}
+use Rattle.std.proofs.Common.{◌≡◌, ℕ, ◌+◌, Bool, true, false, not, ◌&&◌, cond, List, [], ◌∷◌, ◌++◌, length, take, Option, Some, None, nat_eq, append-nil, refl, ap, subst, ◌∙◌, arith}
 use Rattle.std.specs.Prelude.{nat_lt}
 use Rattle.std.proofs.lemmas.Bool.{false≢true}
 use Rattle.fuse_device.specs.Transfers.{Transfer, sent}
@@ -14,23 +14,29 @@ use Rattle.fuse_frames.specs.RequestTies.{SaysRequest}
 use Rattle.fk_kernel.specs.Picks.{IsPicked, after_pick, pick_refusal}
 use Rattle.fk_kernel.specs.declared.read.Pick.{Pick}
 use Rattle.fk_kernel.specs.declared.read.Pick.TheVariants.{Forgets, Interrupt, Pending}
-use Rattle.fk_drive.specs.Driving.{Driven, Drives, first_driven, idle, picked, reads, sends, with_result, next}
+use Rattle.fk_drive.specs.Driving.{Driven, first_driven, idle, picked, reads, sends, with_result}
 use Rattle.fk_drive_frames.specs.OwnRequests.{first_opendir_unique}
+use Rattle.driven_sessions.proofs.Mounts.{DrivesMounting, mounts_next}
 
 -- A driven kernel between two events of a world.
 abbrev pub driven_by : Kernel → Driven
 driven_by k = record { kernel = k; waiting = []; next = first_opendir_unique; asks = false; directories = []; turn = idle }
 
-module _ (k : Kernel) (before : List Transfer) (run : Drives (first_driven false) before (driven_by k)) where
+module _ (k : Kernel) (n : ℕ) (before : List Transfer) (run : DrivesMounting n (first_driven false) before (driven_by k)) where
   pub goes_over : (pick : Pick) → pick_refusal k pick ≡ None → (r : Request) → IsPicked k pick r → (frame : List ℕ)
-      → SaysRequest frame r → (result : WriteResult)
-      → Drives (first_driven false) (before ++ sent frame result ∷ []) (driven_by (record k { queues = after_pick k.queues pick }))
+      → SaysRequest frame r → (result : WriteResult) → DrivesMounting (n + 0) (first_driven false) (before ++ sent frame result ∷ [])
+      (driven_by (record k { queues = after_pick k.queues pick }))
   goes_over pick may r is frame says result =
       let l : Kernel = record k { queues = after_pick k.queues pick } in
       let mid : Driven = record (driven_by k) { kernel = l; turn = picked r } in
-      subst (λ (first : List Transfer). Drives (first_driven false) (first ++ sent frame result ∷ []) (driven_by l)) (append-nil before)
-      (next (before ++ []) mid (next before (driven_by k) run [] mid (reads refl pick may r is)) (sent frame result ∷ [])
-      (driven_by l) (sends r refl (λ asks. absurd (false≢true asks)) frame says (sent frame result ∷ []) (with_result result)))
+      let read : DrivesMounting (n + 0) (first_driven false) (before ++ []) mid =
+      mounts_next n (first_driven false) before (driven_by k) run [] mid (reads refl pick may r is) in
+      let behind : DrivesMounting (n + 0 + 0) (first_driven false) ((before ++ []) ++ sent frame result ∷ []) (driven_by l) =
+      mounts_next (n + 0) (first_driven false) (before ++ []) mid read (sent frame result ∷ []) (driven_by l)
+      (sends r refl (λ asks. absurd (false≢true asks)) frame says (sent frame result ∷ []) (with_result result)) in
+      subst (λ (m : ℕ). DrivesMounting m (first_driven false) (before ++ sent frame result ∷ []) (driven_by l)) (omega arith)
+      (subst (λ (first : List Transfer). DrivesMounting (n + 0 + 0) (first_driven false) (first ++ sent frame result ∷ []) (driven_by l))
+      (append-nil before) behind)
 
 -- ---- nothing refuses it
 

@@ -1,5 +1,5 @@
 -- What the kernel of a world takes as a reply a driven kernel takes.
-use Rattle.std.proofs.Common.{◌≡◌, ◌≢◌, inl, inr, ℕ, ◌-◌, ◌%◌, Bool, true, false, cond, List, [], ◌∷◌, ◌++◌, Option, Some, None, nat_eq, append-nil, refl, ap, sym, subst, ◌∙◌, arith}
+use Rattle.std.proofs.Common.{◌≡◌, ◌≢◌, inl, inr, ℕ, ◌+◌, ◌-◌, ◌%◌, Bool, true, false, cond, List, [], ◌∷◌, ◌++◌, Option, Some, None, nat_eq, append-nil, refl, ap, sym, subst, ◌∙◌, arith}
 use Rattle.std.proofs.lemmas.Int.{ints}
 use Rattle.std.proofs.lemmas.List.Elements.{All-nil}
 use Rattle.fuse_device.specs.Transfers.{Transfer, received}
@@ -20,10 +20,11 @@ use Rattle.fuse_frames.specs.RequestTies.{asked_opcode}
 use Rattle.fk_kernel.specs.AwaitedReplies.{IsAwaited, IsJudged, IsReplyWritten, awaited, awaited_by, awaited_by_call, awaited_by_interrupt, head_unique, nothing}
 use Rattle.fk_drive_frames.specs.Asides.{IsOtherFrame}
 use Rattle.fk_drive_frames.specs.OwnRequests.{first_opendir_unique}
-use Rattle.fk_drive.specs.Driving.{Driven, Drives, first_driven, idle, waits, writes, releases_none, next}
+use Rattle.fk_drive.specs.Driving.{Driven, first_driven, idle, waits, writes, releases_none}
 use Rattle.fk_drive.specs.KernelSteps.{IsReplyTaken}
 use Rattle.fk_drive_theorem.proofs.RunsTally.{said_is}
 use Rattle.world_sessions.specs.WorldTransfers.{IsReplyOf}
+use Rattle.driven_sessions.proofs.Mounts.{DrivesMounting, mounts_next}
 use Rattle.world_sessions.proofs.Reading.{driven_by}
 
 judged_of : (o : Operation ℕ Opened) → IsJudged (asked_opcode (asks o))
@@ -113,13 +114,18 @@ module _ (k : Kernel) (bytes : List ℕ) (unique : ℕ) (wire : WireReply) (is :
       let less = own.allocated in
       omega (arith, low, less)
 
-  pub comes_over : (before : List Transfer) → Drives (first_driven false) before (driven_by k)
-      → Drives (first_driven false) (before ++ received bytes ∷ []) (driven_by (reply_written k unique wire).1)
-  comes_over before run =
+  pub comes_over : (n : ℕ) (before : List Transfer) → DrivesMounting n (first_driven false) before (driven_by k)
+      → DrivesMounting (n + 0) (first_driven false) (before ++ received bytes ∷ []) (driven_by (reply_written k unique wire).1)
+  comes_over n before run =
       let l : Kernel = (reply_written k unique wire).1 in
       let mid : Driven = record (driven_by k) { waiting = bytes ∷ [] } in
-      subst (λ (log : List Transfer). Drives (first_driven false) log (driven_by l)) (append-nil (before ++ received bytes ∷ []))
-      (next (before ++ received bytes ∷ []) mid (next before (driven_by k) run (received bytes ∷ []) mid (waits bytes not_other)) []
-      (driven_by l) (writes refl bytes [] refl bytes (inr (is.known, refl)) (reply_written k unique wire).0 l
+      let waited : DrivesMounting (n + 0) (first_driven false) (before ++ received bytes ∷ []) mid =
+      mounts_next n (first_driven false) before (driven_by k) run (received bytes ∷ []) mid (waits bytes not_other) in
+      let behind : DrivesMounting (n + 0 + 0) (first_driven false) ((before ++ received bytes ∷ []) ++ []) (driven_by l) =
+      mounts_next (n + 0) (first_driven false) (before ++ received bytes ∷ []) mid waited [] (driven_by l)
+      (writes refl bytes [] refl bytes (inr (is.known, refl)) (reply_written k unique wire).0 l
       (taken_at unique refl is.under) [] first_opendir_unique [] idle
-      (releases_none (λ head less. All-nil (λ (d : ℕ × Opened). d.0 ≢ head_unique bytes)))))
+      (releases_none (λ head less. All-nil (λ (d : ℕ × Opened). d.0 ≢ head_unique bytes)))) in
+      subst (λ (m : ℕ). DrivesMounting m (first_driven false) (before ++ received bytes ∷ []) (driven_by l)) (omega arith)
+      (subst (λ (log : List Transfer). DrivesMounting (n + 0 + 0) (first_driven false) log (driven_by l))
+      (append-nil (before ++ received bytes ∷ [])) behind)

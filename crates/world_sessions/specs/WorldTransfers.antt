@@ -1,5 +1,5 @@
 -- What goes over the device between the two sides of a world.
-use Rattle.std.specs.Prelude.{◌≡◌, ℕ, List, [], ◌∷◌, ◌++◌, Some, slice_get}
+use Rattle.std.specs.Prelude.{◌≡◌, ◌+◌, ℕ, List, [], ◌∷◌, ◌++◌, Some, slice_get}
 use Rattle.fuse_device.specs.Transfers.{Transfer, received, sent}
 use Rattle.fuse_spec.specs.declared.WriteResult.{WriteResult}
 use Rattle.fuse_spec.specs.Kernel.Kernel.{Kernel}
@@ -50,9 +50,21 @@ answer_collected w call = record w {
   kernel = record w.kernel { vfs = record w.kernel.vfs { answers = remove w.kernel.vfs.answers call } };
 }
 
--- A run of the world from its beginning, in which answers are collected between events, and what went over the device in it.
-pub data HasTransfers : List Transfer → World → Type 0 where
-  nothing : HasTransfers [] first_world
-  next : (before : List Transfer) (mid : World) → HasTransfers before mid → (e : Event) (o : Outcome) (after : World)
-      → Happens mid e o after → (log : List Transfer) → AreTransfersAt mid e after log → HasTransfers (before ++ log) after
-  collects : (log : List Transfer) (w : World) → HasTransfers log w → (call : ℕ) → HasTransfers log (answer_collected w call)
+-- How many mounts there are in an event, and in events.
+abbrev pub mounts_at : Event → ℕ
+mounts_at (event.mount found missing minor) = 1
+mounts_at e = 0
+
+abbrev pub mounts_among : List Event → ℕ
+mounts_among [] = 0
+mounts_among (e ∷ es) = mounts_at e + mounts_among es
+
+-- A run of the world from its beginning with so many mounts, in which answers are collected between events, and what went
+-- over the device in it.
+pub data HasTransfers : (mounts : ℕ) → List Transfer → World → Type 0 where
+  nothing : HasTransfers 0 [] first_world
+  next : (mounts : ℕ) (before : List Transfer) (mid : World) → HasTransfers mounts before mid → (e : Event) (o : Outcome)
+      (after : World) → Happens mid e o after → (log : List Transfer) → AreTransfersAt mid e after log
+      → HasTransfers (mounts + mounts_at e) (before ++ log) after
+  collects : (mounts : ℕ) (log : List Transfer) (w : World) → HasTransfers mounts log w → (call : ℕ)
+      → HasTransfers mounts log (answer_collected w call)

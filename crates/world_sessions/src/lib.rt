@@ -4,14 +4,10 @@
 //! driven over a device: so what is proved of driven kernels is true of it.
 #![tactic(auto)]
 
-ghost use Rattle.world_sessions.specs.KernelRules.{KernelIsDriven, KernelKeepsRules};
+ghost use Rattle.world_sessions.specs.KernelRules.{KernelKeepsRules};
 
-/// What goes over the device in a run of the world drives a kernel that ends as the world's does.
-pub fn kernel_is_driven()
-    ensures { KernelIsDriven }
-{}
-
-/// The kernel of a world keeps the rules, whatever the events are.
+/// What goes over the device in a run of the world drives a kernel that ends as the world's does, mounts as often and keeps the
+/// rules, whatever the events are.
 pub fn kernel_keeps_rules()
     ensures { KernelKeepsRules }
 {}

@@ -4,6 +4,7 @@ ghost use Rattle.std.specs.Prelude.{◌≡◌, ◌+◌, ◌*◌, ◌<◌, ◌≤
 ghost use Rattle.std.specs.Prelude.{if◌then◌else◌, List, IsTrue, IfErr, OnErr, length, map};
 ghost use Rattle.std.specs.Vec.{vec_len, vec_capacity};
 ghost use Rattle.world_sessions.specs.KernelRules.{SessionGoesOn};
+ghost use Rattle.world_sessions.specs.WorldTransfers.{mounts_among, mounts_at};
 ghost use Rattle.fw_world.specs.OverLinks.{RecordedOver, RunsOneOver, RunsOver, session_of};
 ghost use Rattle.fw_world.specs.Runs.{RunsEach, calls_not_over, events_run};
 ghost use Rattle.fw_world.specs.Values.{event_of, run_record_of};
@@ -20,7 +21,7 @@ use std::alloc::Allocator;
 
 impl<T: Tables, L: Link + Drop> SessionOf<T, L> {
     /// Runs the events one after another. The records of each are its outcome or refusal, `LinkLost` where the link
-    /// was lost in it, and then the answers that it gave, in rising call number.
+    /// was lost in it, and then the answers that it gave, in rising call number. The kernel keeps the rules of sessions.
     ///
     /// # Errors
     ///
@@ -38,7 +39,8 @@ impl<T: Tables, L: Link + Drop> SessionOf<T, L> {
             (session_of self.new.world self.new.is_lost) self.new.link
             × RunsEach (RunsOneOver L.carries L.failed) (session_of self.old.world self.old.is_lost, self.old.link)
             (events_run result events.now) added (session_of self.new.world self.new.is_lost, self.new.link) }
-        ensures session { SessionGoesOn self.old.world self.new.world }
+        ensures session { SessionGoesOn (mounts_among (map event_of (events_run result events.now))) self.old.world
+            self.new.world }
         ensures err { IfErr result (λ k. k < length events.now) }
         ensures full { OnErr result (vec_capacity records.old < vec_len records.old
             + calls_not_over self.old.world + 2 * length events.now) }
@@ -65,7 +67,7 @@ impl<T: Tables, L: Link + Drop> SessionOf<T, L> {
             (event_of event.now ∷ []) (map run_record_of added) (session_of self.new.world self.new.is_lost) self.new.link
             × RunsOneOver L.carries L.failed (session_of self.old.world self.old.is_lost, self.old.link) event.now added
             (session_of self.new.world self.new.is_lost, self.new.link) }
-        ensures session { SessionGoesOn self.old.world self.new.world }
+        ensures session { SessionGoesOn (mounts_at (event_of event.now)) self.old.world self.new.world }
         ensures room { IsTrue result →
             vec_len records.new + calls_not_over self.new.world + vec_capacity records.old
             ≤ vec_len records.old + calls_not_over self.old.world + 2 + vec_capacity records.new }

@@ -5,7 +5,7 @@ use Rattle.fw_world.proofs.Collecting.{none_yet, collects_one, collects_all}
 use Rattle.fw_world.proofs.runs.collect_all.Goals as goal
 
 pub loop-call-init : goal.loop-call-init
-loop-call-init g c = (none_yet c.args.world.now c.args.records.now.items c.lemma_protocol.ensures.sound.sound.both.world.rooted.answers, c.requires, refl, omega (arith), stays c.args.world.now)
+loop-call-init g c = (none_yet c.args.world.now c.args.records.now.items c.lemma_protocol.ensures.sound.sound.both.world.rooted.answers, c.requires, refl, omega (arith), stays 0 c.args.world.now)
 
 pub loop-call-smaller : goal.loop-call-smaller
 loop-call-smaller g c =
@@ -19,7 +19,7 @@ loop-call-preserved g c =
       omega (arith, one.fewer, c.loop-call.invariant.1, c.push_reserved.ensures.len, c.push_reserved.ensures.capacity),
       omega (arith, one.fewer, c.loop-call.invariant.2, c.push_reserved.ensures.len),
       omega (arith, c.loop-call.invariant.3, c.push_reserved.ensures.capacity),
-      goes_further c.args.world.now c.loop-call.world c.collect.new.self c.loop-call.invariant.4 c.collect.ensures.session,
+      goes_further 0 0 c.args.world.now c.loop-call.world c.collect.new.self c.loop-call.invariant.4 c.collect.ensures.session,
     )
 
 pub returns-clause-world : goal.returns-clause-world
@@ -41,4 +41,4 @@ pub returns-clause-capacity : goal.returns-clause-capacity
 returns-clause-capacity g c = c.loop-call.invariant.3
 
 pub returns-clause-session : goal.returns-clause-session
-returns-clause-session g c = goes_further c.args.world.now c.loop-call.world c.collect.new.self c.loop-call.invariant.4 c.collect.ensures.session
+returns-clause-session g c = goes_further 0 0 c.args.world.now c.loop-call.world c.collect.new.self c.loop-call.invariant.4 c.collect.ensures.session

@@ -11,7 +11,7 @@ invariant-loop-call g l = Collects l.fn.world l.fn.records.items l.world l.recor
     × (vec_len l.records + length l.world.kernel.vfs.answers
     ≡ vec_len l.fn.records + length l.fn.world.kernel.vfs.answers)
     × (vec_capacity l.fn.records ≤ vec_capacity l.records)
-    × SessionGoesOn l.fn.world l.world
+    × SessionGoesOn 0 l.fn.world l.world
 
 abbrev pub decreases-loop-call : goal.decreases-loop-call
 decreases-loop-call g l = length l.world.kernel.vfs.answers

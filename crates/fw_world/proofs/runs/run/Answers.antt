@@ -2,14 +2,18 @@ use Rattle.fw_world.specs.declared.event.Event.TheVariants.{Mount}
 use Rattle.fuse_spec.specs.declared.Minor.TheVariants.{M15}
 use Rattle.fw_world.specs.Runs.{calls_not_over}
 use Rattle.fw_world.proofs.Recording.{none_ran, one_more, all_ran, comes_to, comes_as_before}
-use Rattle.std.proofs.Common.{◌+◌, ◌*◌, ◌<◌, length, take, arith}
+use Rattle.std.proofs.Common.{◌+◌, ◌*◌, ◌<◌, length, map, take, sym, subst, arith}
 use Rattle.std.specs.Vec.{vec_len, vec_capacity}
-use Rattle.world_sessions.proofs.GoingOn.{goes_further, stays}
+use Rattle.world_sessions.specs.KernelRules.{SessionGoesOn}
+use Rattle.world_sessions.specs.WorldTransfers.{mounts_among}
+use Rattle.world_sessions.proofs.GoingOn.{stays}
+use Rattle.fw_world.specs.Values.{event_of}
+use Rattle.fw_world.proofs.Transferred.{goes_one_more, goes_to_end}
 use Rattle.fw_world.proofs.OverLinks.{room_for_all}
 use Rattle.fw_world.proofs.runs.run.Goals as goal
 
 pub loop-k-init : goal.loop-k-init
-loop-k-init g c = (none_ran c.args.world.now.sides c.args.events.now c.args.records.now.items, omega (arith), stays c.args.world.now.sides)
+loop-k-init g c = (none_ran c.args.world.now.sides c.args.events.now c.args.records.now.items, omega (arith), stays 0 c.args.world.now.sides)
 
 pub loop-k-preserved : goal.loop-k-preserved
 loop-k-preserved g c = (
@@ -17,7 +21,8 @@ loop-k-preserved g c = (
       (Mount 0 0 M15) c.run_one.new.world.sides c.run_one.new.records.items c.loop-k-test.true c.loop-k.invariant.0
       (c.run_one.ensures.ran c.if-not-run_one.false),
   omega (arith, c.loop-k.invariant.1, c.run_one.ensures.room c.if-not-run_one.false),
-  goes_further c.args.world.now.sides c.loop-k.world.sides c.run_one.new.world.sides c.loop-k.invariant.2 c.run_one.ensures.session,
+  goes_one_more c.args.events.now c.loop-k.k (Mount 0 0 M15) c.loop-k-test.true c.args.world.now.sides c.loop-k.world.sides
+      c.run_one.new.world.sides c.loop-k.invariant.2 c.run_one.ensures.session,
 )
 
 pub returns-then-not-run_one-clause-ran : goal.returns-then-not-run_one-clause-ran
@@ -45,7 +50,9 @@ returns-then-not-run_one-clause-room g c =
 
 pub returns-then-not-run_one-clause-session : goal.returns-then-not-run_one-clause-session
 returns-then-not-run_one-clause-session g c =
-    goes_further c.args.world.now.sides c.loop-k.world.sides c.run_one.new.world.sides c.loop-k.invariant.2 c.run_one.ensures.session
+    subst (SessionGoesOn (mounts_among (map event_of (take c.loop-k.k c.args.events.now))) c.args.world.now.sides)
+    (sym (c.run_one.ensures.not_run c.if-not-run_one.true).0) c.loop-k.invariant.2
 
 pub returns-clause-session : goal.returns-clause-session
-returns-clause-session g c = c.loop-k.invariant.2
+returns-clause-session g c = goes_to_end c.args.events.now c.loop-k.k c.loop-k-test.false c.args.world.now.sides
+    c.loop-k.world.sides c.loop-k.invariant.2

@@ -2,7 +2,9 @@ use Rattle.std.proofs.Common.{◌+◌, ◌≤◌, sym, ap, length, ◌∙◌, ar
 use Rattle.fuse_spec.specs.World.Worlds.{World}
 use Rattle.std.specs.Vec.{vec_len, vec_capacity}
 use Rattle.fuse_theorem.proofs.Answers.WaitingAnswers.{one_more_waits}
-use Rattle.world_sessions.proofs.GoingOn.{goes_further, stays}
+use Rattle.world_sessions.specs.WorldTransfers.{mounts_at}
+use Rattle.world_sessions.proofs.GoingOn.{stays}
+use Rattle.fw_world.proofs.Transferred.{goes_still}
 use Rattle.fw_world.specs.Values.{event_of, outcome_of}
 use Rattle.fw_world.proofs.Recording.{adds_refusal, adds_outcome, made_room, wanted_room}
 use Rattle.fw_world.proofs.runs.run_one.Goals as goal
@@ -51,13 +53,13 @@ returns-then-is_err-clause-full g c not_run =
 
 pub returns-in-Ok-clause-session : goal.returns-in-Ok-clause-session
 returns-in-Ok-clause-session g c =
-    goes_further c.args.world.now.sides c.step.new.self.sides c.collect_all.new.world c.in-Ok.ensures.session c.collect_all.ensures.session
+    goes_still (mounts_at (event_of c.args.event.now)) c.args.world.now.sides c.step.new.self.sides c.collect_all.new.world c.in-Ok.ensures.session c.collect_all.ensures.session
 
 pub returns-in-Err-clause-session : goal.returns-in-Err-clause-session
 returns-in-Err-clause-session g c = c.in-Err.ensures.session
 
 pub returns-then-is_err-clause-session : goal.returns-then-is_err-clause-session
-returns-then-is_err-clause-session g c = stays c.args.world.now.sides
+returns-then-is_err-clause-session g c = stays (mounts_at (event_of c.args.event.now)) c.args.world.now.sides
 
 pub returns-in_default-clause-session : goal.returns-in_default-clause-session
-returns-in_default-clause-session g c = stays c.args.world.now.sides
+returns-in_default-clause-session g c = stays (mounts_at (event_of c.args.event.now)) c.args.world.now.sides

@@ -1,8 +1,12 @@
-use Rattle.std.proofs.Common.{◌+◌, ◌*◌, ◌<◌, length, take, arith}
+use Rattle.std.proofs.Common.{◌+◌, ◌*◌, ◌<◌, length, map, take, sym, subst, arith}
 use Rattle.std.specs.Vec.{vec_len, vec_capacity}
 use Rattle.fw_world.specs.declared.event.Event.TheVariants.{Mount}
 use Rattle.fuse_spec.specs.declared.Minor.TheVariants.{M15}
-use Rattle.world_sessions.proofs.GoingOn.{goes_further, stays}
+use Rattle.world_sessions.specs.KernelRules.{SessionGoesOn}
+use Rattle.world_sessions.specs.WorldTransfers.{mounts_among}
+use Rattle.world_sessions.proofs.GoingOn.{stays}
+use Rattle.fw_world.specs.Values.{event_of}
+use Rattle.fw_world.proofs.Transferred.{goes_one_more, goes_to_end}
 use Rattle.fw_world.specs.OverLinks.{session_of}
 use Rattle.fw_world.specs.Runs.{calls_not_over}
 use Rattle.fw_world.proofs.OverLinks.{all_over, comes_over, none_ran, one_more, ran_as_before, room_for_all}
@@ -13,7 +17,7 @@ loop-k-init g c = (
   none_ran g.L.Link.carries g.L.Link.failed
       (session_of c.args.self.now.world c.args.self.now.is_lost) c.args.self.now.link c.args.events.now c.args.records.now.items,
   omega (arith),
-  stays c.args.self.now.world,
+  stays 0 c.args.self.now.world,
 )
 
 pub loop-k-preserved : goal.loop-k-preserved
@@ -22,7 +26,8 @@ loop-k-preserved g c = (
       (session_of c.args.self.now.world c.args.self.now.is_lost) c.args.self.now.link c.args.events.now c.args.records.now.items (session_of c.loop-k.self.world c.loop-k.self.is_lost) c.loop-k.self.link c.loop-k.records.items c.loop-k.k
       (Mount 0 0 M15) (session_of c.run_one.new.self.world c.run_one.new.self.is_lost) c.run_one.new.self.link c.run_one.new.records.items c.loop-k-test.true c.loop-k.invariant.0 (c.run_one.ensures.ran c.if-not-run_one.false),
   omega (arith, c.loop-k.invariant.1, c.run_one.ensures.room c.if-not-run_one.false),
-  goes_further c.args.self.now.world c.loop-k.self.world c.run_one.new.self.world c.loop-k.invariant.2 c.run_one.ensures.session,
+  goes_one_more c.args.events.now c.loop-k.k (Mount 0 0 M15) c.loop-k-test.true c.args.self.now.world c.loop-k.self.world
+      c.run_one.new.self.world c.loop-k.invariant.2 c.run_one.ensures.session,
 )
 
 pub returns-then-not-run_one-clause-ran : goal.returns-then-not-run_one-clause-ran
@@ -57,7 +62,9 @@ returns-then-not-run_one-clause-room g c =
 
 pub returns-then-not-run_one-clause-session : goal.returns-then-not-run_one-clause-session
 returns-then-not-run_one-clause-session g c =
-    goes_further c.args.self.now.world c.loop-k.self.world c.run_one.new.self.world c.loop-k.invariant.2 c.run_one.ensures.session
+    subst (SessionGoesOn (mounts_among (map event_of (take c.loop-k.k c.args.events.now))) c.args.self.now.world)
+    (sym (c.run_one.ensures.not_run c.if-not-run_one.true).0) c.loop-k.invariant.2
 
 pub returns-clause-session : goal.returns-clause-session
-returns-clause-session g c = c.loop-k.invariant.2
+returns-clause-session g c = goes_to_end c.args.events.now c.loop-k.k c.loop-k-test.false c.args.self.now.world
+    c.loop-k.self.world c.loop-k.invariant.2

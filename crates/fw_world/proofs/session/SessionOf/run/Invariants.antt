@@ -1,8 +1,10 @@
-use Rattle.std.proofs.Common.{◌+◌, ◌*◌, ◌≤◌, take}
+use Rattle.std.proofs.Common.{◌+◌, ◌*◌, ◌≤◌, map, take}
 use Rattle.std.specs.Vec.{vec_len, vec_capacity}
 use Rattle.world_sessions.specs.KernelRules.{SessionGoesOn}
+use Rattle.world_sessions.specs.WorldTransfers.{mounts_among}
 use Rattle.fw_world.specs.OverLinks.{session_of}
 use Rattle.fw_world.specs.Runs.{calls_not_over}
+use Rattle.fw_world.specs.Values.{event_of}
 use Rattle.fw_world.proofs.OverLinks.{RanOver}
 use Rattle.fw_world.proofs.session.SessionOf.run.Given as goal
 
@@ -13,4 +15,4 @@ invariant-loop-k g l =
     (take l.k l.events) l.fn.records.items (session_of l.self.world l.self.is_lost) l.self.link l.records.items
     × (vec_len l.records + calls_not_over l.self.world + vec_capacity l.fn.records
     ≤ vec_len l.fn.records + calls_not_over l.fn.self.world + 2 * l.k + vec_capacity l.records)
-    × SessionGoesOn l.fn.self.world l.self.world
+    × SessionGoesOn (mounts_among (map event_of (take l.k l.events))) l.fn.self.world l.self.world

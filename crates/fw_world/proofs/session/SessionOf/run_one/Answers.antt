@@ -2,7 +2,9 @@ use Rattle.std.proofs.Common.{◌+◌, ◌≤◌, sym, ap, length, ◌∙◌, ar
 use Rattle.fuse_spec.specs.World.Worlds.{World}
 use Rattle.std.specs.Vec.{vec_len, vec_capacity}
 use Rattle.fw_world.specs.Values.{event_of, outcome_of}
-use Rattle.world_sessions.proofs.GoingOn.{goes_further, stays}
+use Rattle.world_sessions.specs.WorldTransfers.{mounts_at}
+use Rattle.world_sessions.proofs.GoingOn.{stays}
+use Rattle.fw_world.proofs.Transferred.{goes_still}
 use Rattle.fw_world.specs.OverLinks.{session_of}
 use Rattle.fw_world.proofs.OverLinks.{adds_outcome, adds_refused, adds_run, one_more_at_most}
 use Rattle.fw_world.proofs.Recording.{made_room, wanted_room}
@@ -72,13 +74,13 @@ push_reserved-requires-in-Err g c =
 
 pub returns-in-Ok-clause-session : goal.returns-in-Ok-clause-session
 returns-in-Ok-clause-session g c =
-    goes_further c.args.self.now.world c.step.new.self.world c.collect_all.new.world c.in-Ok.ensures.session c.collect_all.ensures.session
+    goes_still (mounts_at (event_of c.args.event.now)) c.args.self.now.world c.step.new.self.world c.collect_all.new.world c.in-Ok.ensures.session c.collect_all.ensures.session
 
 pub returns-in-Err-clause-session : goal.returns-in-Err-clause-session
 returns-in-Err-clause-session g c = c.in-Err.ensures.session
 
 pub returns-then-is_err-clause-session : goal.returns-then-is_err-clause-session
-returns-then-is_err-clause-session g c = stays c.args.self.now.world
+returns-then-is_err-clause-session g c = stays (mounts_at (event_of c.args.event.now)) c.args.self.now.world
 
 pub returns-in_default-clause-session : goal.returns-in_default-clause-session
-returns-in_default-clause-session g c = stays c.args.self.now.world
+returns-in_default-clause-session g c = stays (mounts_at (event_of c.args.event.now)) c.args.self.now.world
