@@ -2,6 +2,7 @@ pub mod ActsAlone
 pub mod Following
 pub mod KnownScripts
 pub mod LineRuns
+pub mod Mounting
 pub mod OneMove
 pub mod SourceRuns
 pub mod StopStatuses

@@ -5,6 +5,7 @@ pub mod Inputs
 pub mod Judging
 pub mod LineMoves
 pub mod Moves
+pub mod MoveRules
 pub mod Notes
 pub mod Printed
 pub mod Printing

@@ -8,6 +8,7 @@ ghost use Rattle.fuse_text.specs.Stops.{unreadable};
 ghost use Rattle.fw_drive.specs.DriveLines.{IsGoodDriveScript};
 ghost use Rattle.fw_drive.specs.Judging.{IsUnrun, SaysFirstFault};
 ghost use Rattle.fw_drive.specs.LineMoves.{LinesMoveAs, all_lines};
+ghost use Rattle.fw_drive.specs.MoveRules.{MovesKeepRules};
 ghost use Rattle.fw_drive.specs.Runs.{Goes, RunsScript};
 
 use crate::driver::Driver;
@@ -212,6 +213,8 @@ pub fn run_drive<A: Allocator + Copy, D: Device, R: Read, W: Write, F: Write>(
     ensures drives { (new : Driven) × DrivesOver D.logs device.old device.new (first_driven task.entry.opens_directories) new }
     // No session of what went over the device shows a fault of the kernel, of those that `KeepsRules` has.
     ensures rules { KeepsRules D.logs device.old device.new task.entry.opens_directories }
+    // It keeps them in the moves that are made, and mounts as often as they do.
+    ensures rules_of_moves { MovesKeepRules A task.entry.opens_directories }
     // The lines of the script are run, in their order, and none is left out at status 0 and 6. What is printed is the
     // text of what they come to. It is 6 exactly where a line of it says that the server was wrong.
     ensures moves { IfSome (R.remaining input.old)

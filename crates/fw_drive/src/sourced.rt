@@ -4,6 +4,7 @@ ghost use Rattle.std.specs.Prelude.{◌≡◌, ◌⊎◌, ◌∷◌, [], Contain
 ghost use Rattle.driven_sessions.specs.Rules.{KeepsRules};
 ghost use Rattle.fk_drive.specs.Driving.{Driven, DrivesOver, first_driven};
 ghost use Rattle.fuse_text.specs.Outputs.{AppendsSome};
+ghost use Rattle.fw_drive.specs.MoveRules.{MovesKeepRules};
 ghost use Rattle.fw_drive.specs.Sources.{RunsAll, RunsSource};
 
 use crate::driver::Driver;
@@ -99,6 +100,8 @@ pub fn run_source<A: Allocator + Copy, D: Device, S: LineSource<W>, W: Write, F:
     ensures drives { (new : Driven) × DrivesOver D.logs device.old device.new (first_driven task.entry.opens_directories) new }
     // No session of what went over the device shows a fault of the kernel, of those that `KeepsRules` has.
     ensures rules { KeepsRules D.logs device.old device.new task.entry.opens_directories }
+    // It keeps them in the moves that are made, and mounts as often as they do.
+    ensures rules_of_moves { MovesKeepRules A task.entry.opens_directories }
     // The lines that the source gave are run, in their order, and none is left out. What is printed is the text of what
     // they come to. The status is 6 exactly where all were run and a line of it says that the server was wrong.
     ensures runs { RunsSource A D.logs S.gives S.is_over task.entry.form task.entry.name.now task.entry.opens_directories

@@ -5,6 +5,7 @@ use Rattle.fw_drive.specs.DriveLines.{IsGoodDriveScript}
 use Rattle.fw_drive.specs.Judging.{SaysFirstFault}
 use Rattle.fw_drive.specs.Runs.{RunsScript}
 use Rattle.fw_drive.proofs.KnownScripts.{good_or, of_known}
+use Rattle.fw_drive.proofs.Mounting.{moves_keep_rules}
 use Rattle.fw_drive.proofs.StopStatuses.{unread_among, unread_either, unread_never}
 use Rattle.fw_drive.proofs.run.run_drive.Goals as goal
 
@@ -66,3 +67,9 @@ returns-in-Err-clause-rules g c =
 pub returns-in-Ok-clause-rules : goal.returns-in-Ok-clause-rules
 returns-in-Ok-clause-rules g c =
     keeps_rules g.D.Device.logs c.args.device.now c.run_text.new.device c.args.task.opens_directories c.run_text.ensures.drives
+
+pub returns-in-Ok-clause-rules_of_moves : goal.returns-in-Ok-clause-rules_of_moves
+returns-in-Ok-clause-rules_of_moves g c = moves_keep_rules g.row.A.Denot c.args.task.opens_directories
+
+pub returns-in-Err-clause-rules_of_moves : goal.returns-in-Err-clause-rules_of_moves
+returns-in-Err-clause-rules_of_moves g c = moves_keep_rules g.row.A.Denot c.args.task.opens_directories

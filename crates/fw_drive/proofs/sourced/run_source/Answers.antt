@@ -1,6 +1,7 @@
 use Rattle.std.proofs.Common.{[], refl}
 use Rattle.driven_sessions.proofs.Rules.{keeps_rules}
 use Rattle.fw_drive.proofs.SourceRuns.{halt_among, halt_at_3, halt_quiet, runs_drive, source_ended, source_halted}
+use Rattle.fw_drive.proofs.Mounting.{moves_keep_rules}
 use Rattle.fw_drive.proofs.StopStatuses.{end_among, end_not_3}
 use Rattle.fw_drive.proofs.sourced.run_source.Goals as goal
 
@@ -64,3 +65,9 @@ pub returns-in-Err-clause-rules : goal.returns-in-Err-clause-rules
 returns-in-Err-clause-rules g c =
     keeps_rules g.D.Device.logs c.args.device.now c.run_new-ended.new.device c.args.task.opens_directories
     (returns-in-Err-clause-drives g c)
+
+pub returns-in-Ok-clause-rules_of_moves : goal.returns-in-Ok-clause-rules_of_moves
+returns-in-Ok-clause-rules_of_moves g c = moves_keep_rules g.row.A.Denot c.args.task.opens_directories
+
+pub returns-in-Err-clause-rules_of_moves : goal.returns-in-Err-clause-rules_of_moves
+returns-in-Err-clause-rules_of_moves g c = moves_keep_rules g.row.A.Denot c.args.task.opens_directories
