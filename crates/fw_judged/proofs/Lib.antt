@@ -1,2 +1,3 @@
 mod Stepping
 mod Heard
+mod WholeSessions
