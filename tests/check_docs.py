@@ -38,6 +38,8 @@ FIELDS = set("""attr_valid attr_valid_nsec congestion_threshold entry_out entry_
 STRUCTS = set("""attr attr_out batch_forget_in create_in dirent direntplus entry_out forget_in forget_one getattr_in in_header
     init_in init_out interrupt_in link_in mkdir_in notify_code opcode open_in open_out out_header read_in release_in rename_in
     write_in write_out""".split())
+# What is told apart is no listed file.
+APART = re.compile(r"\b(told|tells?)( the same)? apart\b")
 BROKEN = re.compile(r"\b(has|have|would|can) (?!themselves\b|thousands\b)\w+(ches|nds|kes|ves)\b")
 # The crates that draw pictures, and may say so.
 PICTURES = {"fw_draw", "fuseworld"}
@@ -181,7 +183,7 @@ def comment_faults():
         may_draw = name.parts[1] in PICTURES
         for number, text in comments(file):
             words = [word for word in re.findall(r"\w*_\w+", text) if not is_of_linux(word)]
-            words += [match[0] for match in refused.finditer(text) if not (may_draw and match[0].lower().startswith("draw"))]
+            words += [match[0] for match in refused.finditer(APART.sub("", text)) if not (may_draw and match[0].lower().startswith("draw"))]
             words += [match[0] for match in BROKEN.finditer(text)]
             yield from (f"{name}:{number}: the comment says {word}" for word in words)
 
