@@ -127,8 +127,8 @@ fn digit_of(value: u8) -> u8
     value + 87
 }
 
-/// Spells each byte as a pair of digits. A digit is reckoned and not looked up, so that many bytes are spelled at once: the
-/// library's look-ups take four times as long.
+/// Spells each byte as a pair of digits. A digit is reckoned and not looked up, as the library does, so that many bytes are
+/// spelled at once.
 fn encode(text: &mut [u8], bytes: &[u8])
     requires { length text.old ≡ 2 * length bytes.now }
     ensures { text.new ≡ encode_lower bytes.now }

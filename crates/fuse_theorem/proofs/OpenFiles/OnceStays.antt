@@ -31,6 +31,7 @@ use Rattle.fuse_spec.specs.World.Worlds.{World, Sent, copy_put, first_world, aft
 use Rattle.fuse_spec.specs.World.Events.{Event, Outcome}
 use Rattle.fuse_spec.specs.World.Steps.{MayStep, MayChooseFor, Happens}
 use Rattle.fuse_spec.proofs.QueueReadings.{request_under-without}
+use Rattle.fuse_spec.proofs.QueueReadings.{key_count-le-one}
 use Rattle.fuse_theorem.specs.Copies.{SomeHas, here, there}
 use Rattle.fuse_theorem.specs.EveryList.{BothSound}
 use Rattle.fuse_theorem.specs.Lookups.{LookupsSound}
@@ -422,7 +423,7 @@ module _ (choice : ℕ → ℕ) (w : World) (p : Plain) (both : BothSound w p) (
       (λ u fh c waits none. waits (forgets_under n u (can_read_forgets w.kernel.queues n) ∙ none))
   once_after e o after may (by_read_pending k unique kept body was free found says within) alive_now =
       moved after.kernel after.requests (pending_same w k unique body
-      (read_sum w.kernel sound.queues k unique kept body found says))
+      (read_sum w.kernel (λ u. key_count-le-one w.kernel.queues u sound.queues) k unique kept body found says))
       (answered_still after.kernel.queues (read_moves w.kernel.queues sound.queues k))
   once_after e o after may (by_take k r found within) alive_now = taken_once k r found
   once_after e o after may (by_perform unique t found within) alive_now =
@@ -433,7 +434,8 @@ module _ (choice : ℕ → ℕ) (w : World) (p : Plain) (both : BothSound w p) (
       settled_once k result (get w.server.copies result.number)
   once_after e o after may (by_signal call fatal state was found within) alive_now =
       moved after.kernel w.requests (keeps_same w after.kernel
-      (signalled_keeps w.kernel opens.apart sound.queues call state found fatal))
+      (signalled_keeps w.kernel opens.apart (λ u. key_count-le-one w.kernel.queues u sound.queues) call state
+      found fatal))
       (answered_still after.kernel.queues (signalled_moves w.kernel call state fatal))
   once_after e o after may (by_tick ms timely) alive_now =
       moved (record w.kernel { vfs = later w.kernel.vfs ms }) w.requests (λ f. refl) (λ u fh c waits. waits)

@@ -24,13 +24,12 @@ use Rattle.fuse_spec.specs.Values.Maps.{get}
 use Rattle.fuse_spec.specs.Kernel.Messages.{RequestBody, init, asks, release, WireReply}
 use Rattle.fuse_spec.specs.Files.Operations.{lookup, created, opened, agreed, done, failed, files_in_reply}
 use Rattle.fuse_spec.specs.Calls.Vfs.{CallState, walking, doing, using, asked, answered}
-use Rattle.fuse_spec.specs.Kernel.Queues.{QueueState, IsSound, is_unread, pending, request_under, mark_under}
+use Rattle.fuse_spec.specs.Kernel.Queues.{QueueState, is_unread, pending, request_under, mark_under}
 use Rattle.fuse_spec.specs.Kernel.QueueCalls.{after_reading, after_read_pending, after_reply_effect, after_interrupt_reply, pending_at, waiting, with_mark, with_interrupt, without}
 use Rattle.fuse_spec.specs.Kernel.Signals.{reply_effect}
 use Rattle.fuse_spec.specs.Kernel.Kernel.{Kernel, is_live, asked_by, body_of, kernel_aborted, after_use}
 use Rattle.fuse_spec.specs.Kernel.Replies.{kernel_reply, looked_up, usable, goes_with, is_empty_reply, is_init_reply, is_agreement, write_result_of, judged, replied, replied_to_call, ended_by, request_reply_written, interrupt_reply_written, interrupt_replied, interrupt_reply_of, reply_written, made_ready}
-use Rattle.fuse_spec.proofs.QueueCounts.{lookup-found}
-use Rattle.fuse_spec.proofs.QueueReadings.{key_count-le-one}
+use Rattle.fuse_spec.proofs.QueueCounts.{key_count, lookup-found}
 use Rattle.fuse_theorem.specs.OpenNumbers.{OpensApart, released_for, released_by}
 use Rattle.fuse_theorem.specs.Numbering.{requests_for}
 use Rattle.fuse_theorem.proofs.Calls.Finding.{filtered}
@@ -46,11 +45,11 @@ use Rattle.fuse_theorem.proofs.OpenFiles.ReleasesPending.{ended_sum, marked_sum}
 -- ---- a pending request is read
 
 -- What is read is released by its request on the link.
-pub read_sum : (k : Kernel) → IsSound k.queues → (place unique : ℕ) (kept : Purpose) (body : RequestBody)
+pub read_sum : (k : Kernel) → ((u : ℕ) → key_count u k.queues.requests ≤ 1) → (place unique : ℕ) (kept : Purpose) (body : RequestBody)
     → pending_at k.queues place ≡ Some (unique, kept) → body_of k kept ≡ Some body → (f : Opened → ℕ)
     → kernel_sum f (record k { queues = after_read_pending k.queues place }) + sum_by f (released_by body)
     ≡ kernel_sum f k
-read_sum k sound place unique kept body there says f =
+read_sum k once place unique kept body there says f =
     let moved = by (slice_get (pending k.queues) place) refl there in
     omega (arith, moved)
   where
@@ -93,10 +92,35 @@ read_sum k sound place unique kept body there says f =
         (filtered (λ (d : ℕ × QueuedRequest Purpose). is_unread d.1.mark) k.queues.requests) at in
         let moved = read_one x (lookup-found
         (λ (d : ℕ × QueuedRequest Purpose). is_unread d.1.mark) k.queues.requests place x at
-        (key_count-le-one k.queues x.0 sound)) unread x.1.mark refl in
+        (once x.0)) unread x.1.mark refl in
         let same : sum_by f (released_by body) ≡ sum_by f (released_for x.1.kept) =
         same_release x.1.kept (ap (λ (y : ℕ × Purpose). body_of k y.1) both ∙ says) in
         omega (arith, moved, same)
+
+-- ---- a request ends
+
+-- One that waits was read, so that no RELEASE of it is pending.
+pub ended_keeps : (k : Kernel) → OpensApart k.vfs k.closing → (unique : ℕ) (kept : Purpose)
+    → waiting k.queues unique ≡ Some kept → KeepsOpen k (record k { queues = without k.queues unique }) None
+ended_keeps k old unique kept waits = by (request_under k.queues unique) refl waits
+  where
+    read_one : (r : QueuedRequest Purpose) → request_under k.queues unique ≡ Some r → (b : Bool)
+        → is_unread r.mark ≡ b → cond b None (Some r.kept) ≡ Some kept
+        → KeepsOpen k (record k { queues = without k.queues unique }) None
+    read_one r under true unread e = absurd (cc (e))
+    read_one r under false unread e = record {
+      sums = λ f.
+          let gone = ended_sum f k.queues (without k.queues unique) unique r under refl in
+          let nothing = ap (λ (b : Bool). cond b (sum_by f (released_for r.kept)) 0) unread in
+          omega (arith, gone, nothing);
+      apart = old;
+    }
+
+    by : (o : Option (QueuedRequest Purpose)) → request_under k.queues unique ≡ o
+        → option_map_or (λ r. cond (is_unread r.mark) None (Some r.kept)) o None ≡ Some kept
+        → KeepsOpen k (record k { queues = without k.queues unique }) None
+    by None under e = absurd (cc (e))
+    by (Some r) under e = read_one r under (is_unread r.mark) refl e
 
 -- ---- a reply is taken
 
@@ -216,27 +240,6 @@ module _ (P : Opened → Type 0) where
     abbrev ended : Kernel
     ended = record k { queues = without k.queues unique }
 
-    -- a request that waits was read, so that no RELEASE of it is pending
-    ended_keeps : (kept : Purpose) → waiting k.queues unique ≡ Some kept → KeepsOpen k ended None
-    ended_keeps kept waits = by (request_under k.queues unique) refl waits
-      where
-        read_one : (r : QueuedRequest Purpose) → request_under k.queues unique ≡ Some r → (b : Bool)
-            → is_unread r.mark ≡ b → cond b None (Some r.kept) ≡ Some kept → KeepsOpen k ended None
-        read_one r under true unread e = absurd (cc (e))
-        read_one r under false unread e = record {
-          sums = λ f.
-              let gone = ended_sum f k.queues (without k.queues unique) unique r under refl in
-              let nothing = ap (λ (b : Bool). cond b (sum_by f (released_for r.kept)) 0) unread in
-              omega (arith, gone, nothing);
-          apart = old;
-        }
-
-        by : (o : Option (QueuedRequest Purpose)) → request_under k.queues unique ≡ o
-            → option_map_or (λ r. cond (is_unread r.mark) None (Some r.kept)) o None ≡ Some kept
-            → KeepsOpen k ended None
-        by None under e = absurd (cc (e))
-        by (Some r) under e = read_one r under (is_unread r.mark) refl e
-
     init_received : KeepsOpen k (made_ready ended wire) None
         → ReceivesOpens P k wire (write_result_of (is_init_reply wire), made_ready ended wire)
     init_received keeps = by wire
@@ -263,17 +266,17 @@ module _ (P : Opened → Type 0) where
               write_result_of (is_init_reply wire),
               cond b (made_ready ended wire) (kernel_aborted ended),
             )
-        by true still = let keeps = ended_keeps purpose.Init waits in
+        by true still = let keeps = ended_keeps k old unique purpose.Init waits in
             init_received (record { sums = keeps.sums; apart = keeps.apart })
         by false still = absurd (true≢false (sym still))
-    ended_received is_even (purpose.Release o) waits live = release_received (ended_keeps (purpose.Release o) waits)
+    ended_received is_even (purpose.Release o) waits live = release_received (ended_keeps k old unique (purpose.Release o) waits)
     ended_received is_even (purpose.Call call) waits live = by (get k.vfs.calls call) refl
       where
         by : (o : Option (CallState Opened)) → get k.vfs.calls call ≡ o
             → ReceivesOpens P k wire (replied_to_call ended call wire o)
         by None none = absurd (unanswered k one_request call unique waits none)
         by (Some state) there =
-            let first = ended_keeps (purpose.Call call) waits in
+            let first = ended_keeps k old unique (purpose.Call call) waits in
             let reply_received = replied_received ended old call state there wire used
             (each is_even call state waits there) in
             let second = reply_received.keeps in

@@ -17,12 +17,12 @@ use Rattle.fuse_spec.specs.Calls.Begins.{Beginning, beginning}
 use Rattle.fuse_spec.specs.Calls.Calls.{Call}
 use Rattle.fuse_spec.specs.Values.Maps.{Map, get, put, remove}
 use Rattle.fuse_spec.specs.Files.Operations.{Operation}
-use Rattle.fuse_spec.specs.Kernel.Queues.{IsSound, is_unread, request_under}
+use Rattle.fuse_spec.specs.Kernel.Queues.{is_unread, request_under}
 use Rattle.fuse_spec.specs.Kernel.QueueCalls.{after_enqueue, after_effect, with_mark, with_interrupt, after_dequeue}
 use Rattle.fuse_spec.specs.Kernel.Signals.{signal_effect}
 use Rattle.fuse_spec.specs.Calls.Vfs.{CallState, walking, doing, using, Vfs, Advance, answered, begun, after_beginning, numbered}
 use Rattle.fuse_spec.specs.Kernel.Kernel.{Kernel, is_aborted, is_for, is_using, is_used, request_of, asking_for, advanced, released, released_if_idle, after_use, closed_by, closing_of, call_begun, after_signal, signalled_at, call_signalled}
-use Rattle.fuse_spec.proofs.QueueReadings.{key_count-le-one}
+use Rattle.fuse_spec.proofs.QueueCounts.{key_count}
 use Rattle.fuse_spec.proofs.Tables.{get_put_here, get_put_there, get_gone_here, get_gone_there}
 use Rattle.fuse_theorem.specs.OpenNumbers.{stands, UsesOpen, OpensApart}
 use Rattle.fuse_theorem.proofs.Refining.Evicting.{found_fails}
@@ -272,10 +272,10 @@ answered_keeps k old call state there a =
     let first : KeepsOpen k k1 None = record { sums = steps.sums; apart = steps.apart } in
     then_keeps k k1 (after_use k1 state) None first (used_keeps k1 first.apart state)
 
-pub signalled_keeps : (k : Kernel) → OpensApart k.vfs k.closing → IsSound k.queues
+pub signalled_keeps : (k : Kernel) → OpensApart k.vfs k.closing → ((u : ℕ) → key_count u k.queues.requests ≤ 1)
     → (call : ℕ) (state : CallState Opened) → get k.vfs.calls call ≡ Some state → (fatal : Bool)
     → KeepsOpen k (call_signalled k call state fatal).1 None
-signalled_keeps k old sound call state there fatal = by (request_of k call) refl
+signalled_keeps k old once call state there fatal = by (request_of k call) refl
   where
     -- a request of a call releases nothing
     call_releases : (f : Opened → ℕ) (m : Mark) (kept : Purpose) → is_for call kept ≡ true
@@ -331,7 +331,7 @@ signalled_keeps k old sound call state there fatal = by (request_of k call) refl
     under_number unique found None under = unmoved k old
     under_number unique found (Some r) under =
         let entry = found_entry (λ (e : ℕ × QueuedRequest Purpose). is_for call e.1.kept) k.queues.requests unique
-        (key_count-le-one k.queues unique sound) found in
+        (once unique) found in
         let same : entry.0 ≡ r = cc (entry.1, under) in
         effect unique r under (subst (λ (x : QueuedRequest Purpose). is_for call x.kept ≡ true) same entry.2)
         (signal_effect r.mark fatal k.queues.interrupts_off)

@@ -22,6 +22,7 @@ use Rattle.fuse_spec.specs.World.Worlds.{World, Sent, first_world, server_settle
 use Rattle.fuse_spec.specs.World.Events.{Event, Outcome}
 use Rattle.fuse_spec.specs.Kernel.Refusals.{is_ready}
 use Rattle.fuse_spec.specs.World.Steps.{MayStep, MayChooseFor, Happens}
+use Rattle.fuse_spec.proofs.QueueReadings.{key_count-le-one}
 use Rattle.fuse_theorem.specs.EveryList.{BothSound}
 use Rattle.fuse_theorem.specs.Lookups.{EntriesHeld, LookupsSound}
 use Rattle.fuse_theorem.specs.Numbering.{IsNumbered}
@@ -192,7 +193,7 @@ module _ (choice : ℕ → ℕ) (w : World) (p : Plain) (both : BothSound w p) (
   apart_after e o after (by_write k sent there within) = written_apart k sent there
   apart_after e o after (by_settle k result there) = old.apart
   apart_after e o after (by_signal call fatal state live there within) = let kept =
-      signalled_keeps w.kernel old.apart sound.queues call state there fatal in kept.apart
+      signalled_keeps w.kernel old.apart (λ u. key_count-le-one w.kernel.queues u sound.queues) call state there fatal in kept.apart
   apart_after e o after (by_tick ms timely) = let a =
       old.apart in record { once = a.once; below = a.below; opens = a.opens; closing = a.closing; uses = a.uses }
   apart_after e o after (by_drop directory name bound live there) = let a =
@@ -229,7 +230,7 @@ module _ (choice : ℕ → ℕ) (w : World) (p : Plain) (both : BothSound w p) (
       kernel_moves w (old.balanced was) after.kernel after.requests (forgets_same w n)
   balanced_after e o after may next (by_read_pending k unique kept body was free there says within) live =
       kernel_moves w (old.balanced was) after.kernel after.requests
-      (pending_same w k unique body (read_sum w.kernel sound.queues k unique kept body there says))
+      (pending_same w k unique body (read_sum w.kernel (λ u. key_count-le-one w.kernel.queues u sound.queues) k unique kept body there says))
   balanced_after e o after may next (by_take k r there within) live =
       let took = taking w.server r.unique r.body in
       let was = same_phase (after_take w k r.unique took)
@@ -252,7 +253,8 @@ module _ (choice : ℕ → ℕ) (w : World) (p : Plain) (both : BothSound w p) (
       settled_balanced w p both live releases old.held (old.balanced live) k result there next
   balanced_after e o after may next (by_signal call fatal state was there within) live =
       kernel_moves w (old.balanced was) after.kernel w.requests
-      (keeps_same w after.kernel (signalled_keeps w.kernel old.apart sound.queues call state there fatal))
+      (keeps_same w after.kernel (signalled_keeps w.kernel old.apart (λ u. key_count-le-one w.kernel.queues u sound.queues) call state
+      there fatal))
   balanced_after e o after may next (by_tick ms timely) live =
       kernel_moves w (old.balanced live) (record w.kernel { vfs = later w.kernel.vfs ms }) w.requests (λ f. refl)
   balanced_after e o after may next (by_drop directory name bound was there) live =
