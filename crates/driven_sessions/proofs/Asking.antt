@@ -85,7 +85,7 @@ awaits_none k u none = ap (λ (o : Option (QueuedRequest Purpose)). awaited_by k
     (option_map_or (λ (x : QueuedRequest Purpose). cond (is_unread x.mark) None (Some x.kept)) o None)) none
 
 -- What is read under the number was read.
-read_under : (u : ℕ) (es : List Entry) (r : QueuedRequest Purpose) → Each (IsRead u) es → lookup (nat_eq u) es ≡ Some r
+pub read_under : (u : ℕ) (es : List Entry) (r : QueuedRequest Purpose) → Each (IsRead u) es → lookup (nat_eq u) es ≡ Some r
     → is_unread r.mark ≡ false
 read_under u [] r all found = absurd (cc found)
 read_under u (e ∷ es) r all found = by (nat_eq u e.0) refl (read_under u es r all.1) found

@@ -7,10 +7,9 @@ use Rattle.std.proofs.lemmas.Bool.Decides.{nat_tests}
 use Rattle.fk_wire.specs.declared.opcode.Opcode.{Opcode as CodecOpcode}
 use Rattle.fk_wire.specs.declared.opcode.Opcode.TheVariants as codec_op
 use Rattle.fk_wire.specs.Opcodes.{code_of as codec_code}
-use Rattle.fk_wire.specs.Requests.{RequestContent, opcode_of}
-use Rattle.fk_wire.specs.Requests as wire
-use Rattle.fuse_spec.specs.Kernel.Messages.{Request, RequestBody}
-use Rattle.fuse_frames.specs.RequestTies.{SaysRequest, asked_opcode, body_in}
+use Rattle.fuse_spec.specs.Kernel.Messages.{Request}
+use Rattle.fuse_frames.specs.RequestTies.{SaysRequest, asked_opcode}
+use Rattle.fk_drive.proofs.SentFrames.{said_opcode}
 use Rattle.fuse_protocol.specs.declared.opcode.Opcode.{Opcode}
 use Rattle.fuse_protocol.specs.declared.opcode.Opcode.TheVariants as op
 use Rattle.fuse_protocol.specs.Pairs.{pairs_of_row}
@@ -55,11 +54,11 @@ module _ (IsSuch : ℕ → Asked → Type 0) where
 
   -- ---- what waits
 
-  abbrev EachAsked : List (ℕ × Asked) → Type 0
+  abbrev pub EachAsked : List (ℕ × Asked) → Type 0
   EachAsked [] = Unit {0}
   EachAsked (e ∷ es) = IsSuch e.0 e.1 × EachAsked es
 
-  each_kept : (test : ℕ × Asked → Bool) (es : List (ℕ × Asked)) → EachAsked es → EachAsked (filter test es)
+  pub each_kept : (test : ℕ × Asked → Bool) (es : List (ℕ × Asked)) → EachAsked es → EachAsked (filter test es)
   each_kept test [] all = tt
   each_kept test (e ∷ es) all = by (test e) (each_kept test es all.1)
     where
@@ -67,7 +66,7 @@ module _ (IsSuch : ℕ → Asked → Type 0) where
       by true rest = (all.0, rest)
       by false rest = rest
 
-  each_append : (xs ys : List (ℕ × Asked)) → EachAsked xs → EachAsked ys → EachAsked (xs ++ ys)
+  pub each_append : (xs ys : List (ℕ × Asked)) → EachAsked xs → EachAsked ys → EachAsked (xs ++ ys)
   each_append [] ys first last = last
   each_append (e ∷ xs) ys first last = (first.0, each_append xs ys first.1 last)
 
@@ -75,7 +74,7 @@ module _ (IsSuch : ℕ → Asked → Type 0) where
   asked_each (act.Asks unique asked) later all = (all.0, tt)
   asked_each a later all = tt
 
-  waiting_each : (s : Session) → AllAsk IsSuch s → EachAsked (waiting s)
+  pub waiting_each : (s : Session) → AllAsk IsSuch s → EachAsked (waiting s)
   waiting_each [] all = tt
   waiting_each (a ∷ later) all = each_append (filter (λ e. not (list_any (ends e.0) later)) (asked_by a)) (waiting later)
       (each_kept _ (asked_by a) (asked_each a later all)) (waiting_each later (tail_ask a later all))
@@ -185,16 +184,6 @@ sent_asks k frame acts shaped carries (inr (none, does)) =
     let one = shaped k.agreed carries in absurd (none (one.0, one.1) one.2)
 
 -- ---- a request of the kernel's
-
-opcode_said : Option RequestBody → CodecOpcode
-opcode_said None = codec_op.Init
-opcode_said (Some body) = asked_opcode body
-
-said_opcode : (nodeid : ℕ) (c : RequestContent) (body : RequestBody) → body_in nodeid c ≡ Some body
-    → codec_code (opcode_of c) ≡ codec_code (asked_opcode body)
-unfolding opcode_said
-said_opcode nodeid (wire.lookup name) body says = ap (λ (o : Option RequestBody). codec_code (opcode_said o)) says
-said_opcode nodeid c body says = ap (λ (o : Option RequestBody). codec_code (opcode_said o)) says
 
 same_tables : (c : CodecOpcode) → codec_code c ≡ code_of (table_opcode c)
 same_tables codec_op.Lookup = refl

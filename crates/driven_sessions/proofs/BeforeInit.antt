@@ -199,7 +199,7 @@ module _ (all now : List Outcome) (old : Driven) (k : Known) (s : Session) (free
         let init = read_early read old.kernel pick request may picks is_early in
         none_on all (now ++ []) new k s free (still true [] new init.early init.is closed refl goes k s was) ts is later whole leads
     early_goes log new (sends request turn unlisted frame says log' went) empty goes ts is later whole leads taken =
-        init_goes read new is_early tt closed refl request (held_init (picked request) turn) frame says log went goes ts is later
+        init_goes read new is_early tt closed refl request (held_init (picked request) turn) frame says.says log went goes ts is later
         whole leads
     early_goes log new (opens request turn asks below node lists frame own log' went) empty goes ts is later whole leads taken =
         absurd (false≢true (sym (lists_no_init request.body node lists) ∙ held_init (picked request) turn))

@@ -180,7 +180,7 @@ error_failing frame unique (pos n) gives = absurd (by n (omega (arith, ints, goo
         cc (is ∙ ap Some (sym here))
 
 -- What is handed on for an older agreement is short.
-raised_short : (frame handed : List ℕ) → IsOlderAgreement frame → handed ≡ raised frame → length handed ≤ 80
+pub raised_short : (frame handed : List ℕ) → IsOlderAgreement frame → handed ≡ raised frame → length handed ≤ 80
 raised_short frame handed older same =
     subst (λ (l : List ℕ). length l ≤ 80) (sym same)
     (by_raised (λ l. length l ≤ 80) frame (short 15 40 (omega arith) (by older)) (short 31 80 (omega arith) (by older)))
@@ -204,7 +204,7 @@ opcode_of_awaited none_awaited = op.Init
 opcode_of_awaited (reply_to o) = o
 
 -- What awaits a reply has a number of the kernel's, and the kernel is live.
-awaited_low : (k : Kernel) → OneEach k.queues → EmptyUnlessLive k → k.queues.next ≤ 2 ^ 62 → (u : ℕ) (p : Opcode)
+pub awaited_low : (k : Kernel) → OneEach k.queues → EmptyUnlessLive k → k.queues.next ≤ 2 ^ 62 → (u : ℕ) (p : Opcode)
     → awaits k u ≡ reply_to p → (u < 2 ^ 62) × (is_live k.phase ≡ true)
 awaited_low k one empty within u p at = (low (nat_lt u k.queues.next) refl (one u), live (is_live k.phase) refl)
   where
@@ -415,13 +415,13 @@ module _ (id : ℕ) (low : 2 ≤ id) (count : ℕ) (t : Tally) (all now : List O
         let was = counts.balance in
         aside_counts log new (reads idles pick may request picked_one) few goes refl _ (omega (arith, was, most)) tt
     step_counts log new (sends request turn unlisted frame says log' went) few goes is taken agreed judged =
-        let most = sends_grow id k s frame (forgotten id (forgets_of request.body)) (request_forgets id frame request says) log went ts
+        let most = sends_grow id k s frame (forgotten id (forgets_of request.body)) (request_forgets id frame request says.says) log went ts
         is later whole leads in
         let was = counts.balance in
         let back : held_back id old.turn ≡ forgotten id (forgets_of request.body) = ap (held_back id) turn in
         aside_counts log new (sends request turn unlisted frame says log' went) few goes refl t (omega (arith, was, most, back)) tt
     step_counts log new (sends_opened request fh turn frame says handle log' went) few goes is taken agreed judged =
-        let most = sends_grow id k s frame (forgotten id (forgets_of request.body)) (request_forgets id frame request says) log went ts
+        let most = sends_grow id k s frame (forgotten id (forgets_of request.body)) (request_forgets id frame request says.says) log went ts
         is later whole leads in
         let was = counts.balance in
         let back : held_back id old.turn ≡ forgotten id (forgets_of request.body) = ap (held_back id) turn in

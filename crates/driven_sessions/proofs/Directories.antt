@@ -356,7 +356,7 @@ module _ (count : ℕ) (old : Driven) (k : Known) (s : Session) (l : Listed coun
       opens = tt;
       held = λ r of. absurd (cc of);
       each = each_map (Waiting old s) (Waiting new whole) (same_waiting new refl (λ id.
-          let most = sends_grow id k s frame (forgotten id (forgets_of request.body)) (request_forgets id frame request says) log went ts
+          let most = sends_grow id k s frame (forgotten id (forgets_of request.body)) (request_forgets id frame request says.says) log went ts
           is later whole leads in
           let back : held_back id old.turn ≡ forgotten id (forgets_of request.body) = ap (held_back id) turn in
           omega (arith, most, back))) old.directories l.each;
@@ -367,7 +367,7 @@ module _ (count : ℕ) (old : Driven) (k : Known) (s : Session) (l : Listed coun
       opens = tt;
       held = λ r of. absurd (cc of);
       each = each_map (Waiting old s) (Waiting new whole) (same_waiting new refl (λ id.
-          let most = sends_grow id k s frame (forgotten id (forgets_of request.body)) (request_forgets id frame request says) log went ts
+          let most = sends_grow id k s frame (forgotten id (forgets_of request.body)) (request_forgets id frame request says.says) log went ts
           is later whole leads in
           let back : held_back id old.turn ≡ forgotten id (forgets_of request.body) = ap (held_back id) turn in
           omega (arith, most, back))) old.directories l.each;

@@ -192,9 +192,10 @@ listed_behind ps bytes good long reads =
 
 -- ---- what a reply says
 
--- It names nodes.
-abbrev IsNaming : AnswerContent → Type 0
+-- It names nodes, or an open file.
+abbrev pub IsNaming : AnswerContent → Type 0
 IsNaming (answer.entry e) = Unit {0}
+IsNaming (answer.opened file) = Unit {0}
 IsNaming (answer.created e file) = Unit {0}
 IsNaming (answer.entry_records rs) = Unit {0}
 IsNaming content = ⊥
@@ -210,7 +211,7 @@ same_content (shape.Sized place) asked other bytes names = by (asked == 0) names
     by false never = absurd never
 same_content s asked other bytes names = refl
 
-same_answer : (s : ReplyShape) (asked other : ℕ) (bytes : List ℕ) → IsNaming (answer_at s asked bytes)
+pub same_answer : (s : ReplyShape) (asked other : ℕ) (bytes : List ℕ) → IsNaming (answer_at s asked bytes)
     → answer_at s other bytes ≡ answer_at s asked bytes
 same_answer s asked other bytes names = by (number_at 4 4 bytes == 0) names
   where
@@ -220,14 +221,16 @@ same_answer s asked other bytes names = by (number_at 4 4 bytes == 0) names
     by true names = same_content s asked other bytes names
     by false names = absurd names
 
--- It is an entry, or one with an open file.
-abbrev IsEntered : AnswerContent → Type 0
+-- It is an entry, an open file, or both.
+abbrev pub IsEntered : AnswerContent → Type 0
 IsEntered (answer.entry e) = Unit {0}
+IsEntered (answer.opened file) = Unit {0}
 IsEntered (answer.created e file) = Unit {0}
 IsEntered content = ⊥
 
-entered_names : (content : AnswerContent) → IsEntered content → IsNaming content
+pub entered_names : (content : AnswerContent) → IsEntered content → IsNaming content
 entered_names (answer.entry e) is = tt
+entered_names (answer.opened file) is = tt
 entered_names (answer.created e file) is = tt
 entered_names content is = absurd is
 
@@ -255,7 +258,7 @@ same_body s asked other bytes is body = by (number_at 4 4 bytes == 0) is body
     by false is has = absurd is
 
 -- Such a reply is one whatever was asked for.
-same_reply : (agreed : Agreed) (s : ReplyShape) (asked other : ℕ) (bytes : List ℕ) (m : ReplyMessage)
+pub same_reply : (agreed : Agreed) (s : ReplyShape) (asked other : ℕ) (bytes : List ℕ) (m : ReplyMessage)
     → IsReply agreed s asked bytes m → IsEntered m.answer → IsReply agreed s other bytes m
 same_reply agreed s asked other bytes m is enters =
     let here : IsEntered (answer_at s asked bytes) = subst IsEntered (sym is.answer) enters in record {

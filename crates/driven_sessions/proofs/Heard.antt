@@ -64,14 +64,15 @@ module _ (id : ℕ) (low : 2 ≤ id) (k : Known) (carries : Carries k.agreed) (b
       (subst (λ (x : Option Asked). MatchBool (is_to_interrupt u x) ((acts ≡ interrupt_acts bytes taken.Accepted) × (later ≡ k))
       (IsReplyTo k bytes taken.Accepted x acts later)) there does)
 
-  pub waited_gives : (s : Session) (a : Asked) → waits s u ≡ Some a → a.opcode ≡ Some (table_opcode o)
+  -- It is a reply to what its request asked.
+  pub waited_reply : (s : Session) (a : Asked) → waits s u ≡ Some a → a.opcode ≡ Some (table_opcode o)
       → IsWritten k s bytes taken.Accepted acts later → (wire : WireReply) → Says o bytes wire
-      → times_named id wire ≤ gives id acts
-  waited_gives s a there asks (inl (head, does)) wire says =
+      → IsReplyOf k bytes taken.Accepted (table_opcode o) a acts later
+  waited_reply s a there asks (inl (head, does)) wire says =
       let placed = subst (λ (n : ℕ). MatchBool (n == 0) (IsNotified k bytes taken.Accepted acts later)
       (MatchBool (is_to_interrupt n (waits s n)) ((acts ≡ interrupt_acts bytes taken.Accepted) × (later ≡ k))
       (IsReplyTo k bytes taken.Accepted (waits s n) acts later))) is does in
-      reply_gives id low k carries bytes o a acts later (to_waiting (waits s u) a there asks (past (u == 0) apart placed)) wire says
+      to_waiting (waits s u) a there asks (past (u == 0) apart placed)
     where
       apart : (u == 0) ≡ false
       apart = grind (arith, nat_tests, some)
@@ -83,13 +84,19 @@ module _ (id : ℕ) (low : 2 ≤ id) (k : Known) (carries : Carries k.agreed) (b
           (IsReplyTo k bytes taken.Accepted (waits s u) acts later)
       past true e placed = absurd (false≢true (sym e))
       past false e placed = placed
-  waited_gives s a there asks (inr (bad, does, same)) wire says =
+  waited_reply s a there asks (inr (bad, does, same)) wire says =
       let read = replied_alike latest_minor k.agreed o (length bytes) bytes says.says.message carries (omega arith) says.says.spells in
       absurd (bad (read.1.frame, headed (number_in bytes == 0) read.1.error))
     where
       headed : {P : Type 0} (b : Bool) → P → MatchBool b (Unit {0}) P
       headed true p = tt
       headed false p = p
+
+  pub waited_gives : (s : Session) (a : Asked) → waits s u ≡ Some a → a.opcode ≡ Some (table_opcode o)
+      → IsWritten k s bytes taken.Accepted acts later → (wire : WireReply) → Says o bytes wire
+      → times_named id wire ≤ gives id acts
+  waited_gives s a there asks does wire says =
+      reply_gives id low k carries bytes o a acts later (waited_reply s a there asks does wire says) wire says
 
 -- ---- a frame that will be accepted
 

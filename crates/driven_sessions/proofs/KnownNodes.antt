@@ -54,18 +54,18 @@ pub record Knowing (k : Kernel) : Type 0 where
 
 -- ---- it holds as soon as it is not false
 
-true_stable : (b : Bool) → Stable (T b)
+pub true_stable : (b : Bool) → Stable (T b)
 true_stable true s = tt
 true_stable false s = absurd (s (λ t. t))
 
-less_stable : (a b : ℕ) → Stable (a < b)
+pub less_stable : (a b : ℕ) → Stable (a < b)
 less_stable a b s = by (nat_lt a b) refl
   where
     by : (t : Bool) → nat_lt a b ≡ t → a < b
     by true e = grind (arith, nat_tests, e)
     by false e = absurd (s (λ less. grind (arith, nat_tests, e, less)))
 
-all_stable : {X : Type 0} (P : X → Type 0) → ((x : X) → Stable (P x)) → (xs : List X) → Stable (All P xs)
+pub all_stable : {X : Type 0} (P : X → Type 0) → ((x : X) → Stable (P x)) → (xs : List X) → Stable (All P xs)
 all_stable P each xs s = λ i d lt. each (get_or xs i d) (λ no. s (λ all. no (all i d lt)))
 
 known_stable : (nodes : Map Counted) (id : ℕ) → Stable (IsKnown nodes id)
@@ -88,7 +88,7 @@ vfs_stable nodes c s = record {
   opens = all_stable (OpenKnown nodes) (λ o. known_stable nodes o.nodeid) (values c.opens) (λ no. s (λ v. no v.opens));
 }
 
-same_opened : (a b : Opened) → Stable (a ≡ b)
+pub same_opened : (a b : Opened) → Stable (a ≡ b)
 same_opened a b s =
     let node : a.nodeid ≡ b.nodeid = same_number _ _ (λ no. s (λ e. no (ap (λ (o : Opened). o.nodeid) e))) in
     let fh : a.fh ≡ b.fh = same_number _ _ (λ no. s (λ e. no (ap (λ (o : Opened). o.fh) e))) in

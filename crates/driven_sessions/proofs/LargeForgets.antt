@@ -214,9 +214,9 @@ module _ (k : Known) (s : Session) (free : AreFree is_of_large_forgets [] s) (la
   step_free : (log : List Transfer) (new : Driven) → DriveStep old log new → (ts : List Said) → AreSaid log ts
       → Lead k s ts later all → AreFree is_of_large_forgets [] all
   step_free log new (sends request turn unlisted frame says log' went) ts is leads = sends_free k s free later all frame
-      (held_says frame request says (ap held turn)) log went ts is leads
+      (held_says frame request says.says (ap held turn)) log went ts is leads
   step_free log new (sends_opened request fh turn frame says handle log' went) ts is leads = sends_free k s free later all frame
-      (held_says frame request says (ap held turn)) log went ts is leads
+      (held_says frame request says.says (ap held turn)) log went ts is leads
   step_free log new (opens request turn asks below node lists frame own log' went) ts is leads =
       sends_free k s free later all frame (λ judged. own_says s frame old.next below (inl (node, own))) log went ts is leads
   step_free log new (writes idles frame rest there handed on result l took log' coming left turn release) ts is leads =

@@ -194,7 +194,7 @@ module _ (k : Kernel) (one : OneEach k.queues) (above : Above k.queues) where
           read_as mark.Interrupted unread only = absurd (false≢true unread)
 
   -- Nothing is awaited under the coming number.
-  none_coming : request_under k.queues k.queues.next ≡ None
+  pub none_coming : request_under k.queues k.queues.next ≡ None
   none_coming = lookup-no_key k.queues.next k.queues.requests (few (nat_lt k.queues.next k.queues.next) refl (one k.queues.next))
     where
       few : (b : Bool) → nat_lt k.queues.next k.queues.next ≡ b → key_count k.queues.next k.queues.requests ≤ cond b 1 0

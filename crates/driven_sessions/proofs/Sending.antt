@@ -97,7 +97,7 @@ module _ (IsGood : Request → Type 0) (IsSuch : List ℕ → Type 0) (Fine : Ke
   step_right old log new (reads idles pick may request is) fine even right =
       (tt, λ r same. subst IsGood (some_request request r same) (good old.kernel pick request fine is))
   step_right old log new (sends request turn unlisted frame says log' went) fine even right =
-      (held_sent old.turn request right (ap held turn) frame says log went, none_right new.turn refl)
+      (held_sent old.turn request right (ap held turn) frame says.says log went, none_right new.turn refl)
   step_right old log new (opens request turn asks below node lists frame is log' went) fine even right =
       (own_sent frame old.next even below (inl (node, is)) log went, moved old.turn new.turn (sym (ap held turn)) right)
   step_right old log new (is_given request unique node turn frame fh gives) fine even right =
@@ -109,7 +109,7 @@ module _ (IsGood : Request → Type 0) (IsSuch : List ℕ → Type 0) (Fine : Ke
   step_right old log new (is_garbled request unique node turn frame head same gives) fine even right =
       (tt, moved old.turn new.turn (sym (ap held turn)) right)
   step_right old log new (sends_opened request fh turn frame says handle log' went) fine even right =
-      (held_sent old.turn request right (ap held turn) frame says log went, none_right new.turn refl)
+      (held_sent old.turn request right (ap held turn) frame says.says log went, none_right new.turn refl)
   step_right old log new (answers request error turn bytes written result k taken) fine even right =
       (tt, none_right new.turn refl)
   step_right old log new (waits frame own_one) fine even right = (tt, right)

@@ -27,12 +27,13 @@ use Rattle.fuse_sessions.specs.declared.transfer.Transfer.{Transfer as Said}
 use Rattle.fuse_sessions.specs.declared.transfer.Transfer.TheVariants as said
 use Rattle.fuse_sessions.specs.Faults.{Breaks, HasFaultAt}
 use Rattle.fuse_sessions.specs.Parties.{party_of}
-use Rattle.fuse_sessions.specs.Frames.{IsNotified, IsReplyTo, IsWritten, Lead, eintr, error_in, interrupt_acts, is_to_interrupt, nothing_known, number_in, replied}
+use Rattle.fuse_sessions.specs.Faultless.{HasNoFaultOf}
+use Rattle.fuse_sessions.specs.Frames.{AreAccepted, IsNotified, IsReplyTo, IsWritten, Lead, eintr, error_in, interrupt_acts, is_to_interrupt, nothing_known, number_in, replied}
 use Rattle.fuse_sessions.specs.Sessions.{Session}
 use Rattle.fuse_sessions.specs.Waiting.{waits}
 use Rattle.fuse_sessions.proofs.ReplyLaws.{unawaited_reply, waits_past_interrupted, waits_past_taking}
-use Rattle.driven_sessions.specs.Driven.{IsRightlyServed, IsTakenWhereServed}
-use Rattle.driven_sessions.specs.Taken.{AllAccepted, AreTaken, HasHeader, IsTaken, Outcome, aside, outcomes_of, waiting, written}
+use Rattle.driven_sessions.specs.Driven.{IsTakenWhereServed}
+use Rattle.driven_sessions.specs.Taken.{AreTaken, HasHeader, IsTaken, Outcome, aside, outcomes_of, waiting, written}
 use Rattle.driven_sessions.proofs.Leading.{AreFree}
 use Rattle.driven_sessions.proofs.Unagreed.{judged_acts}
 
@@ -41,7 +42,7 @@ abbrev is_server : Party → Bool
 is_server Server = true
 is_server other = false
 
-abbrev is_of_server : Fault → Bool
+abbrev pub is_of_server : Fault → Bool
 is_of_server f = is_server (party_of f)
 
 servers : (p : Party) → is_server p ≡ true → p ≡ Server
@@ -52,7 +53,7 @@ servers Nobody is = absurd (false≢true is)
 
 -- ---- acts that are free, in parts
 
-free_if : (s : Session) (acts : List Act) → ((place : ℕ) (f : Fault) → HasFaultAt s acts place f → party_of f ≡ Server → ⊥)
+pub free_if : (s : Session) (acts : List Act) → ((place : ℕ) (f : Fault) → HasFaultAt s acts place f → party_of f ≡ Server → ⊥)
     → AreFree is_of_server s acts
 free_if s [] none = tt
 free_if s (a ∷ acts) none = (
@@ -68,11 +69,11 @@ free_if s (a ∷ acts) none = (
   }) is),
 )
 
-free_first : (s : Session) (xs ys : List Act) → AreFree is_of_server s (xs ++ ys) → AreFree is_of_server s xs
+pub free_first : (s : Session) (xs ys : List Act) → AreFree is_of_server s (xs ++ ys) → AreFree is_of_server s xs
 free_first s [] ys free = tt
 free_first s (a ∷ xs) ys free = (free.0, free_first (s ++ a ∷ []) xs ys free.1)
 
-free_last : (s : Session) (xs ys : List Act) → AreFree is_of_server s (xs ++ ys) → AreFree is_of_server (s ++ xs) ys
+pub free_last : (s : Session) (xs ys : List Act) → AreFree is_of_server s (xs ++ ys) → AreFree is_of_server (s ++ xs) ys
 free_last s [] ys free = subst (λ (t : Session). AreFree is_of_server t ys) (sym (append-nil s)) free
 free_last s (a ∷ xs) ys free = subst (λ (t : Session). AreFree is_of_server t ys) (append_assoc s (a ∷ []) xs)
     (free_last (s ++ a ∷ []) xs ys free.1)
@@ -152,11 +153,11 @@ module _ (k : Known) (s : Session) (bytes : List ℕ) (acts : List Act) (later :
 -- ---- a session
 
 -- what a session gets as it leads on
-abbrev added : (k : Known) (s : Session) (ts : List Said) (later : Known) (all : Session) → Lead k s ts later all → List Act
+abbrev pub added : (k : Known) (s : Session) (ts : List Said) (later : Known) (all : Session) → Lead k s ts later all → List Act
 added k s [] later all leads = []
 added k s (t ∷ ts) later all (acts, known, are, leads) = acts ++ added known (s ++ acts) ts later all leads
 
-added_all : (k : Known) (s : Session) (ts : List Said) (later : Known) (all : Session) (leads : Lead k s ts later all)
+pub added_all : (k : Known) (s : Session) (ts : List Said) (later : Known) (all : Session) (leads : Lead k s ts later all)
     → all ≡ s ++ added k s ts later all leads
 added_all k s [] later all leads = leads.1 ∙ sym (append-nil s)
 added_all k s (t ∷ ts) later all (acts, known, are, leads) =
@@ -175,7 +176,7 @@ one_taken k s bytes t acts later are accepted free (written Accepted) = λ judge
 )
 
 all_taken : (k : Known) (s : Session) (ts : List Said) (later : Known) (all : Session) (leads : Lead k s ts later all)
-    → AllAccepted ts → AreFree is_of_server s (added k s ts later all leads) → (os : List Outcome)
+    → AreAccepted ts → AreFree is_of_server s (added k s ts later all leads) → (os : List Outcome)
     → AreTaken k s ts later all leads os
 all_taken k s [] later all leads accepted free os = tt
 all_taken k s (said.Written b t ∷ ts) later all (acts, known, are, leads) accepted free [] = tt
@@ -199,5 +200,5 @@ pub taken_where_served : (asks : Bool) (log : List Transfer) (new : Driven) (run
 taken_where_served asks log new run ts is accepted k s leads none =
     all_taken nothing_known [] (said.SeveralReaders ∷ ts) k s leads accepted
     (free_if [] (added nothing_known [] (said.SeveralReaders ∷ ts) k s leads)
-    (subst (λ (l : Session). IsRightlyServed l) (added_all nothing_known [] (said.SeveralReaders ∷ ts) k s leads) none))
+    (subst (λ (l : Session). HasNoFaultOf Server l) (added_all nothing_known [] (said.SeveralReaders ∷ ts) k s leads) none))
     (outcomes_of run)

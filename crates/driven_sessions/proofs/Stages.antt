@@ -223,7 +223,7 @@ module _ (any : Bool) (count : ℕ) (some : 1 ≤ count) where
             (picked_no_init old.kernel pick request (passed live) first is)),
       )
   begun_goes old log new (sends request turn unlisted frame says log' went) few empty first passed other = (
-    held_firsts any frame request (λ sent. other sent request (ap held turn)) says log went,
+    held_firsts any frame request (λ sent. other sent request (ap held turn)) says.says log went,
     has_begun (omega (arith, some)) passed (λ sent. none_holds idle refl),
   )
   begun_goes old log new (opens request turn asks below node lists frame is log' went) few empty first passed other = (
@@ -241,7 +241,7 @@ module _ (any : Bool) (count : ℕ) (some : 1 ≤ count) where
   begun_goes old log new (is_garbled request unique node turn frame head same gives) few empty first passed other =
       (tt, has_begun (omega (arith, some)) passed (λ sent. moved_holds old.turn new.turn (sym (ap held turn)) (other sent)))
   begun_goes old log new (sends_opened request fh turn frame says handle log' went) few empty first passed other = (
-    held_firsts any frame request (λ sent. other sent request (ap held turn)) says log went,
+    held_firsts any frame request (λ sent. other sent request (ap held turn)) says.says log went,
     has_begun (omega (arith, some)) passed (λ sent. none_holds idle refl),
   )
   begun_goes old log new (answers request error turn bytes written result k took) few empty first passed other = (

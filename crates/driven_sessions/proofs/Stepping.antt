@@ -75,7 +75,7 @@ module _ (count : ℕ) (s : Session) where
       quiet [] nothing (reads_keeps count old s new.kernel request keeps (ap held idles) live
       (picks old.kernel live (keeps.numbered live) one within pick request is few))
   step_goes old log new (sends_step request turn unlisted frame says log' went) none empty one within few keeps =
-      held_goes count old new s keeps request (ap held turn) refl refl refl frame says log went
+      held_goes count old new s keeps request (ap held turn) refl refl refl frame says.says log went
   step_goes old log new (opens request turn asks below node lists frame is log' went) none empty one within few keeps =
       own_goes count old new s keeps (same_keeps old.kernel) (sym (ap held turn)) refl below frame
       (opendir_head frame old.next node is below) log went
@@ -92,7 +92,7 @@ module _ (count : ℕ) (s : Session) where
       quiet log (receives frame) (still old new keeps (same_keeps old.kernel) (λ r is. ap held turn ∙ is)
       (λ is. sym (ap held turn) ∙ is) refl)
   step_goes old log new (sends_opened request fh turn frame says handle log' went) none empty one within few keeps =
-      held_goes count old new s keeps request (ap held turn) refl refl refl frame says log went
+      held_goes count old new s keeps request (ap held turn) refl refl refl frame says.says log went
   step_goes old log new (answers request error turn bytes written result k taken) none empty one within few keeps =
       quiet [] nothing (still old new keeps (taken_kernel old.kernel bytes result k taken empty)
       (λ r is. absurd (none_held None r refl is)) (λ is. refl) refl)

@@ -43,7 +43,7 @@ use Rattle.driven_sessions.proofs.Steps.{WhileLive, alone_keeps, taken_keeps}
 -- ---- requests of a session
 
 -- Each request that a frame is read as is such.
-abbrev FrameAsks : (ℕ → Asked → Type 0) → List ℕ → Type 0
+abbrev pub FrameAsks : (ℕ → Asked → Type 0) → List ℕ → Type 0
 FrameAsks IsSuch frame = (k : Known) (acts : List Act) → Carries k.agreed → AreRequestActs k frame acts → AllAsk IsSuch acts
 
 module _ (IsSuch : ℕ → Asked → Type 0) where
@@ -79,7 +79,7 @@ module _ (IsSuch : ℕ → Asked → Type 0) where
   asks_grow log such ts is k s later all leads agreed was = absurd search
 
 -- A frame that is an INTERRUPT asks nothing.
-interrupt_asks : (IsSuch : ℕ → Asked → Type 0) (frame : List ℕ) → IsShaped frame → opcode_in frame ≡ 36 → FrameAsks IsSuch frame
+pub interrupt_asks : (IsSuch : ℕ → Asked → Type 0) (frame : List ℕ) → IsShaped frame → opcode_in frame ≡ 36 → FrameAsks IsSuch frame
 interrupt_asks IsSuch frame shaped code k acts carries (inl ((o, m), is, does)) =
     let same = same_opcode o op.Interrupt (sym is.opcode ∙ code) in
     subst (AllAsk IsSuch) (sym (does ∙ ap (λ (p : Opcode). request_acts k.has_resent p m) same)) tt
@@ -108,7 +108,7 @@ pub record Tells (count : ℕ) (d : Driven) (s : Session) : Type 0 where
 own_tied : (k : Kernel) (u : ℕ) (a : Asked) → 2 ^ 62 ≤ u → Tied k u a
 own_tied k u a high low = absurd (omega (arith, high, low))
 
-own_asks : (frame : List ℕ) (unique : ℕ) → 2 ^ 62 ≤ unique → unique < 2 ^ 63 → IsOwn frame unique → FrameAsks IsOwnNumber frame
+pub own_asks : (frame : List ℕ) (unique : ℕ) → 2 ^ 62 ≤ unique → unique < 2 ^ 63 → IsOwn frame unique → FrameAsks IsOwnNumber frame
 own_asks frame unique high low own k acts carries does =
     let head = own_head frame unique low own in
     let number : unique_in frame ≡ unique = head.1 in
@@ -148,7 +148,7 @@ IsNoRead (reads idles pick may request is) = ⊥
 IsNoRead step = Unit {0}
 
 -- A request that is held after another step than a read was held before it.
-held_before : (old : Driven) (log : List Transfer) (new : Driven) (step : DriveStep old log new) → IsNoRead step → (r : Request)
+pub held_before : (old : Driven) (log : List Transfer) (new : Driven) (step : DriveStep old log new) → IsNoRead step → (r : Request)
     → held new.turn ≡ Some r → held old.turn ≡ Some r
 held_before old log new (reads idles pick may request is) other r holds = absurd other
 held_before old log new (sends request turn unlisted frame says log' went) other r holds = cc holds
@@ -176,13 +176,13 @@ module _ (count : ℕ) (old : Driven) (s : Session) (tells : Tells count old s) 
     where
       by : (log : List Transfer) → SendsFrame frame log → AllSent (FrameAsks (Tied old.kernel)) log
       by log (with_result result) =
-          (request_tied old.kernel frame request says (λ other. tells.holds request (ap held turn) other), tt)
+          (request_tied old.kernel frame request says.says (λ other. tells.holds request (ap held turn) other), tt)
       by log (at_end end) = tt
   frames_tied log new (sends_opened request fh turn frame says handle log' went) = by log' went
     where
       by : (log : List Transfer) → SendsFrame frame log → AllSent (FrameAsks (Tied old.kernel)) log
       by log (with_result result) =
-          (request_tied old.kernel frame request says (λ other. tells.holds request (ap held turn) other), tt)
+          (request_tied old.kernel frame request says.says (λ other. tells.holds request (ap held turn) other), tt)
       by log (at_end end) = tt
   frames_tied log new (opens request turn asks below node lists frame own log' went) = by log' went
     where

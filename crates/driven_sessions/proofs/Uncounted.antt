@@ -164,9 +164,9 @@ module _ (k : Known) (s : Session) (free : AreFree is_of_uncounted_nodes [] s) (
     step_free : (log : List Transfer) (new : Driven) → DriveStep old log new → (ts : List Said) → AreSaid log ts
         → Lead k s ts later all → AreFree is_of_uncounted_nodes [] all
     step_free log new (sends request turn unlisted frame says log' went) ts is leads = sends_free frame
-        (λ judged. request_nodes (IsThere s) frame request says (holds judged request (ap held turn))) log went ts is leads
+        (λ judged. request_nodes (IsThere s) frame request says.says (holds judged request (ap held turn))) log went ts is leads
     step_free log new (sends_opened request fh turn frame says handle log' went) ts is leads = sends_free frame
-        (λ judged. request_nodes (IsThere s) frame request says (holds judged request (ap held turn))) log went ts is leads
+        (λ judged. request_nodes (IsThere s) frame request says.says (holds judged request (ap held turn))) log went ts is leads
     step_free log new (opens request turn asks below node lists frame own log' went) ts is leads =
         sends_free frame (λ judged. opendir_nodes (IsThere s) frame old.next node own below
         (lists_names (IsThere s) request.body node (lists_of request.body node lists) (holds judged request (ap held turn))))

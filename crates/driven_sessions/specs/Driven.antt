@@ -11,11 +11,11 @@ use Rattle.fuse_sessions.specs.declared.known.Known.{Known}
 use Rattle.fuse_sessions.specs.declared.transfer.Transfer.{Transfer as Said}
 use Rattle.fuse_sessions.specs.declared.transfer.Transfer.TheVariants as said
 use Rattle.fuse_sessions.specs.Faults.{HasFaultAt}
-use Rattle.fuse_sessions.specs.Parties.{party_of}
-use Rattle.fuse_sessions.specs.Frames.{IsSession, Lead, nothing_known}
+use Rattle.fuse_sessions.specs.Faultless.{HasNoFaultOf}
+use Rattle.fuse_sessions.specs.Frames.{AreAccepted, IsSession, Lead, nothing_known}
 use Rattle.fuse_sessions.specs.Sessions.{Session}
 use Rattle.driven_sessions.specs.Transfers.{AreSaid}
-use Rattle.driven_sessions.specs.Taken.{AllAccepted, AreTaken, outcomes_of}
+use Rattle.driven_sessions.specs.Taken.{AreTaken, outcomes_of}
 
 -- The kernel mounts once at most. A second mount over one connection begins again at the first number.
 abbrev pub IsOneMount : {old : Driven} {log : List Transfer} {new : Driven} → Drives old log new → Type 0
@@ -84,12 +84,8 @@ abbrev pub NeverAccusedMountedOnceWhereTaken : (Fault → Bool) → Type 0
 NeverAccusedMountedOnceWhereTaken group = (asks : Bool) (log : List Transfer) (new : Driven)
     (run : Drives (first_driven asks) log new) → IsOneMount run → IsFreeWhereTakenAndCarried group run
 
--- No act of a session has, at its moment, a fault of the server.
-abbrev pub IsRightlyServed : Session → Type 0
-IsRightlyServed s = (place : ℕ) (f : Fault) → HasFaultAt [] s place f → party_of f ≡ Server → ⊥
-
 -- A session in which each reply is accepted, and the server has no fault, has of each frame what the kernel made of it.
 abbrev pub IsTakenWhereServed : {old : Driven} {log : List Transfer} {new : Driven} → Drives old log new → Type 0
-IsTakenWhereServed {log = log} run = (ts : List Said) → AreSaid log ts → AllAccepted ts → (k : Known) (s : Session)
-    (is : IsSession (said.SeveralReaders ∷ ts) k s) → IsRightlyServed s
+IsTakenWhereServed {log = log} run = (ts : List Said) → AreSaid log ts → AreAccepted ts → (k : Known) (s : Session)
+    (is : IsSession (said.SeveralReaders ∷ ts) k s) → HasNoFaultOf Server s
     → AreTaken nothing_known [] (said.SeveralReaders ∷ ts) k s is (outcomes_of run)

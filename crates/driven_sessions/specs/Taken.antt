@@ -67,9 +67,3 @@ AreTaken k s (said.Written bytes t ∷ ts) later all (acts, known, are, leads) (
 AreTaken k s (said.Written bytes t ∷ ts) later all leads [] = Unit {0}
 AreTaken k s [] later all leads outcomes = Unit {0}
 AreTaken k s (t ∷ ts) later all (acts, known, are, leads) outcomes = AreTaken known (s ++ acts) ts later all leads outcomes
-
--- Each reply of a session is accepted.
-abbrev pub AllAccepted : List Said → Type 0
-AllAccepted [] = Unit {0}
-AllAccepted (said.Written bytes t ∷ ts) = (t ≡ taken.Accepted) × AllAccepted ts
-AllAccepted (t ∷ ts) = AllAccepted ts

@@ -6,4 +6,5 @@ pub mod Noting
 pub mod Released
 pub mod Requests
 pub mod Sent
+pub mod SentFrames
 pub mod WrittenNext

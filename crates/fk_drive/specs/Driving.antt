@@ -57,6 +57,11 @@ first_driven asks = record {
   turn = idle;
 }
 
+-- A frame says this request, and where it is a GETATTR it names no open file. (linux/fuse.h, struct fuse_getattr_in)
+pub record IsSentFrame (frame : List ℕ) (request : Request) : Type 0 where
+  pub says : SaysRequest frame request
+  pub names_no_file : number_at 4 4 frame ≡ 3 → number_at 40 4 frame ≡ 0
+
 -- These bytes are sent, with some result, or the device ends at it.
 pub data SendsFrame (bytes : List ℕ) : List Transfer → Type 0 where
   with_result : (result : WriteResult) → SendsFrame bytes (sent bytes result ∷ [])
@@ -86,7 +91,7 @@ pub data DriveStep (old : Driven) : List Transfer → Driven → Type 0 where
   -- It is sent, in a frame that spells it, unless OPENDIR goes before it.
   sends : (request : Request) → old.turn ≡ picked request
       → (old.asks ≡ true → old.next < 2 ^ 63 → (node : ℕ) → ListsNode request.body node → ⊥)
-      → (frame : List ℕ) → SaysRequest frame request → (log : List Transfer) → SendsFrame frame log
+      → (frame : List ℕ) → IsSentFrame frame request → (log : List Transfer) → SendsFrame frame log
       → DriveStep old log (record old { turn = idle })
   -- Before one that lists a directory, OPENDIR is sent where it is asked, under a number that the kernel never allocates,
   -- while there is one.
@@ -112,7 +117,7 @@ pub data DriveStep (old : Driven) : List Transfer → Driven → Type 0 where
       → DriveStep old (received frame ∷ []) (record old { turn = unopened request eio_error })
   -- What lists an open directory is sent with its fh.
   sends_opened : (request : Request) (fh : ℕ) → old.turn ≡ opened request fh → (frame : List ℕ)
-      → SaysRequest frame request → number_at 40 8 frame ≡ fh → (log : List Transfer) → SendsFrame frame log
+      → IsSentFrame frame request → number_at 40 8 frame ≡ fh → (log : List Transfer) → SendsFrame frame log
       → DriveStep old log (record old { turn = idle })
   -- What lists one that could not be opened is not sent: the kernel takes that error as its reply.
   answers : (request : Request) (error : ℤ) → old.turn ≡ unopened request error → (bytes : List ℕ)

@@ -206,3 +206,9 @@ nothing_known = record { offered = None; agreed = before_init; has_resent = fals
 -- The session of these transfers has these acts, and this is known after it.
 abbrev pub IsSession : List Transfer → Known → Session → Type 0
 IsSession transfers k s = Lead nothing_known [] transfers k s
+
+-- Each reply and notification that is written is accepted.
+abbrev pub AreAccepted : List Transfer → Type 0
+AreAccepted [] = Unit {0}
+AreAccepted (transfer.Written bytes t ∷ ts) = (t ≡ taken.Accepted) × AreAccepted ts
+AreAccepted (t ∷ ts) = AreAccepted ts

@@ -1,5 +1,5 @@
 -- Where a whole session has no fault of the server, all its replies are accepted.
-use Rattle.std.proofs.Common.{◌≡◌, inl, inr, ℕ, zero, suc, List, [], ◌∷◌, ◌++◌, Option, Some, append_assoc, append-nil, take, sym, ◌∙◌, ap, subst}
+use Rattle.std.proofs.Common.{◌≡◌, inl, inr, ℕ, zero, suc, List, [], ◌∷◌, ◌++◌, append_assoc, append-nil, take, refl, sym, ◌∙◌, ap, subst}
 use Rattle.std.specs.Borrow.{Bor}
 use Rattle.fuse_device.specs.Transfers.{Transfer, received}
 use Rattle.fuse_sessions.specs.declared.act.Act.{Act}
@@ -10,10 +10,11 @@ use Rattle.fuse_sessions.specs.declared.fault.Party.TheVariants.{Server}
 use Rattle.fuse_sessions.specs.declared.transfer.Transfer.{Transfer as Said}
 use Rattle.fuse_sessions.specs.declared.transfer.Transfer.TheVariants as said
 use Rattle.fuse_sessions.specs.Faults.{Breaks, HasFaultAt}
-use Rattle.fuse_sessions.specs.Frames.{AreActs}
+use Rattle.fuse_sessions.specs.Faultless.{HasNoFaultOf}
+use Rattle.fuse_sessions.specs.Frames.{AreAccepted, AreActs}
 use Rattle.fuse_sessions.specs.Parties.{party_of}
 use Rattle.fuse_sessions.specs.Sessions.{Session}
-use Rattle.fw_judged.specs.Accepted.{AllAcceptedWhereServed, AreAccepted, IsRightlyServed}
+use Rattle.fw_judged.specs.Accepted.{AllAcceptedWhereServed}
 use Rattle.fw_judged.specs.Judged.{Goes, Judges, Seen, Steps}
 use Rattle.fw_judged.specs.Sides.{IsTaken, OfServer}
 use Rattle.fw_judged.specs.declared.form.Form.{Form}
@@ -56,7 +57,7 @@ in_whole first (a ∷ s) acts place f has =
     (subst (λ (t : Session). HasFaultAt t acts place f) (sym (append_assoc first (a ∷ []) s)) has) in
     (suc whole, before first a (s ++ acts) whole f is)
 
-part_served : (s : Session) (acts more : List Act) → IsRightlyServed ((s ++ acts) ++ more) → (place : ℕ) (f : Fault)
+part_served : (s : Session) (acts more : List Act) → HasNoFaultOf Server ((s ++ acts) ++ more) → (place : ℕ) (f : Fault)
     → HasFaultAt s acts place f → party_of f ≡ Server → ⊥
 part_served s acts more rightly place f has =
     let (whole, is) = in_whole [] s acts place f has in rightly whole f (in_more [] (s ++ acts) more whole f is)
@@ -66,18 +67,16 @@ part_served s acts more rightly place f has =
 -- One transfer more is the last.
 last_accepted : (ts : List Said) (t : Said) → AreAccepted ts
     → ((bytes : Bor (List ℕ)) (x : Taken) → t ≡ said.Written bytes x → x ≡ taken.Accepted) → AreAccepted (ts ++ t ∷ [])
-last_accepted [] t were one zero bytes x stands = one bytes x (some t (said.Written bytes x) stands)
-  where
-    some : (a b : Said) → ◌≡◌ {A = Option Said} (Some a) (Some b) → a ≡ b
-    some a b e = ap of e
-      where
-        of : Option Said → Said
-        of (Some y) = y
-        of other = a
-last_accepted [] t were one (suc n) bytes x stands = absurd (cc stands)
-last_accepted (u ∷ ts) t were one zero bytes x stands = were zero bytes x stands
-last_accepted (u ∷ ts) t were one (suc n) bytes x stands =
-    last_accepted ts t (λ place. were (suc place)) one n bytes x stands
+last_accepted [] (said.Written bytes x) were one = (one bytes x refl, tt)
+last_accepted [] (said.Request bytes) were one = tt
+last_accepted [] said.SeveralReaders were one = tt
+last_accepted [] said.SeveralWriters were one = tt
+last_accepted [] said.Ended were one = tt
+last_accepted (said.Written bytes x ∷ ts) t were one = (were.0, last_accepted ts t were.1 one)
+last_accepted (said.Request bytes ∷ ts) t were one = last_accepted ts t were one
+last_accepted (said.SeveralReaders ∷ ts) t were one = last_accepted ts t were one
+last_accepted (said.SeveralWriters ∷ ts) t were one = last_accepted ts t were one
+last_accepted (said.Ended ∷ ts) t were one = last_accepted ts t were one
 
 module _ (f : Form) where
   -- What is seen is behind what was.
@@ -109,21 +108,21 @@ module _ (f : Form) where
       (more ++ others, two ∙ ap (λ (l : Session). l ++ others) one ∙ append_assoc s.acts more others)
 
   judged_accepted : (t : Transfer) (s next : Seen) (text : List ℕ) → Judges f (λ said. OfServer s t said) s next text
-      → (more : List Act) → IsRightlyServed (next.acts ++ more) → AreAccepted s.transfers → AreAccepted next.transfers
+      → (more : List Act) → HasNoFaultOf Server (next.acts ++ more) → AreAccepted s.transfers → AreAccepted next.transfers
   judged_accepted t s next text judges more rightly were =
       subst AreAccepted (sym (ap (λ (x : Seen). x.transfers) judges.after))
       (last_accepted s.transfers judges.said were (λ bytes x same.
       accepted_where_served s bytes x (taken_so bytes x t (subst (λ (u : Said). OfServer s t u) same judges.is)) judges.acts judges.known
       (subst (λ (u : Said). AreActs s.known s.acts u judges.acts judges.known) same judges.are)
       (part_served s.acts judges.acts more
-      (subst (λ (l : Session). IsRightlyServed (l ++ more)) (ap (λ (x : Seen). x.acts) judges.after) rightly))))
+      (subst (λ (l : Session). HasNoFaultOf Server (l ++ more)) (ap (λ (x : Seen). x.acts) judges.after) rightly))))
     where
       taken_so : (bytes : Bor (List ℕ)) (x : Taken) (t : Transfer) → OfServer s t (said.Written bytes x) → IsTaken s (said.Written bytes x)
       taken_so bytes x (received frame) is = is.1
       taken_so bytes x t is = absurd is
 
   step_accepted : (t : Transfer) (from : Stage) (s : Seen) (to : Stage) (next : Seen) (text : List ℕ)
-      → Steps f (λ said. OfServer s t said) from s to next text → (more : List Act) → IsRightlyServed (next.acts ++ more)
+      → Steps f (λ said. OfServer s t said) from s to next text → (more : List Act) → HasNoFaultOf Server (next.acts ++ more)
       → AreAccepted s.transfers → AreAccepted next.transfers
   step_accepted t stage.Judging s stage.Judging next text judges more rightly were =
       judged_accepted t s next text judges more rightly were
@@ -145,4 +144,4 @@ all_accepted f from s [] to later text is rightly were =
 all_accepted f from s (t ∷ log) to later text (mid, next, first, rest, steps, goes, same) rightly were =
     let (more, grown) = goes_grow f mid next log to later rest goes in
     all_accepted f mid next log to later rest goes rightly
-    (step_accepted f t from s mid next first steps more (subst IsRightlyServed grown rightly) were)
+    (step_accepted f t from s mid next first steps more (subst (λ (l : Session). HasNoFaultOf Server l) grown rightly) were)

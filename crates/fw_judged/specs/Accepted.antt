@@ -1,5 +1,5 @@
 -- How replies are taken of which nothing is heard.
-use Rattle.std.specs.Prelude.{◌≡◌, ℕ, List, [], Some, slice_get}
+use Rattle.std.specs.Prelude.{◌≡◌, ℕ, List}
 use Rattle.std.specs.Borrow.{Bor}
 use Rattle.fuse_sessions.specs.declared.act.Act.{Act}
 use Rattle.fuse_sessions.specs.declared.act.Taken.{Taken}
@@ -10,9 +10,9 @@ use Rattle.fuse_sessions.specs.declared.known.Known.{Known}
 use Rattle.fuse_sessions.specs.declared.transfer.Transfer.{Transfer as Said}
 use Rattle.fuse_sessions.specs.declared.transfer.Transfer.TheVariants as said
 use Rattle.fuse_sessions.specs.Faults.{HasFaultAt}
-use Rattle.fuse_sessions.specs.Frames.{AreActs}
+use Rattle.fuse_sessions.specs.Faultless.{HasNoFaultOf}
+use Rattle.fuse_sessions.specs.Frames.{AreAccepted, AreActs}
 use Rattle.fuse_sessions.specs.Parties.{party_of}
-use Rattle.fuse_sessions.specs.Sessions.{Session}
 use Rattle.fuse_device.specs.Transfers.{Transfer}
 use Rattle.fw_judged.specs.Judged.{Goes, Seen}
 use Rattle.fw_judged.specs.Sides.{IsTaken, OfServer}
@@ -25,16 +25,8 @@ AcceptedWhereServed = (s : Seen) (bytes : Bor (List ℕ)) (t : Taken) → IsTake
     → (acts : List Act) (later : Known) → AreActs s.known s.acts (said.Written bytes t) acts later
     → ((place : ℕ) (f : Fault) → HasFaultAt s.acts acts place f → party_of f ≡ Server → ⊥) → t ≡ taken.Accepted
 
--- No act of a session has, at its moment, a fault of the server.
-abbrev pub IsRightlyServed : Session → Type 0
-IsRightlyServed s = (place : ℕ) (f : Fault) → HasFaultAt [] s place f → party_of f ≡ Server → ⊥
-
--- Each reply that was seen was accepted.
-abbrev pub AreAccepted : List Said → Type 0
-AreAccepted ts = (place : ℕ) (bytes : Bor (List ℕ)) (t : Taken) → slice_get ts place ≡ Some (said.Written bytes t) → t ≡ taken.Accepted
-
--- So is each that follows over a device, where the server has no fault in the whole.
+-- Each that is seen over a device is accepted, where the server has no fault in the whole.
 abbrev pub AllAcceptedWhereServed : Type 0
 AllAcceptedWhereServed = (f : Form) (from : Stage) (s : Seen) (log : List Transfer) (to : Stage) (later : Seen) (text : List ℕ)
-    → Goes f OfServer from s log to later text → IsRightlyServed later.acts → AreAccepted s.transfers
+    → Goes f OfServer from s log to later text → HasNoFaultOf Server later.acts → AreAccepted s.transfers
     → AreAccepted later.transfers

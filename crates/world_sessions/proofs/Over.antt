@@ -8,7 +8,6 @@ use Rattle.fk_wire.specs.declared.opcode.Opcode.TheVariants as op
 use Rattle.fk_wire.specs.Entries.{missing, found}
 use Rattle.fk_wire.specs.Replies.{ReplyContent, empty_reply, entry_reply, attr_reply, open_reply, bytes_reply, write_reply, create_reply, records_reply, plus_reply, reply_body}
 use Rattle.fk_wire.specs.Replies as content
-use Rattle.fk_wire.proofs.Frames.{spells}
 use Rattle.fuse_device.specs.Transfers.{received, sent}
 use Rattle.fuse_spec.specs.declared.Minor.{Minor}
 use Rattle.fuse_spec.specs.declared.Minor.TheVariants.{M15, M31}
@@ -22,14 +21,14 @@ use Rattle.fuse_frames.specs.ReplyTies.{SaysReply, wire_said}
 use Rattle.fuse_frames.specs.RequestTies.{IsRequestFrame}
 use Rattle.fk_kernel.specs.AwaitedReplies.{HasReplyHead, IsAwaited, IsJudged, Says, awaited, head_unique, reply_to}
 use Rattle.fk_drive_frames.specs.Agreements.{IsOlderAgreement}
-use Rattle.fk_drive.proofs.Requests.{says_of}
+use Rattle.fk_drive.proofs.SentFrames.{written_frame}
 use Rattle.world_sessions.specs.WorldTransfers.{HasTransfersAt}
 use Rattle.world_sessions.proofs.Written.{kinds_of}
 
 -- A request that goes onto its link in its frame is sent, whichever was read.
 pub request_over : (w after : World) (r : Request) → after.requests ≡ w.requests ++ r ∷ [] → (bytes : List ℕ)
     → IsRequestFrame bytes r → HasTransfersAt w event.read_interrupt after
-request_over w after r put bytes is = (sent bytes Accepted ∷ [], (r, put, bytes, says_of spells bytes r is, Accepted, refl))
+request_over w after r put bytes is = (sent bytes Accepted ∷ [], (r, put, bytes, written_frame bytes r is, Accepted, refl))
 
 -- ---- the server's reply to INIT
 

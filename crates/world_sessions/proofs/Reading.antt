@@ -10,11 +10,10 @@ use Rattle.fuse_spec.specs.Kernel.Kernel.{Kernel, body_of, forgets_read, forgets
 use Rattle.fuse_spec.specs.Kernel.Messages.{Forget, Request, RequestBody}
 use Rattle.fuse_spec.specs.Kernel.QueueCalls.{after_read_forgets, can_read_forgets, pending_at}
 use Rattle.fuse_spec.specs.Kernel.Refusals.{accepted, first_found, found, is_kernel_past_end, refusal_in, unless}
-use Rattle.fuse_frames.specs.RequestTies.{SaysRequest}
 use Rattle.fk_kernel.specs.Picks.{IsPicked, after_pick, pick_refusal}
 use Rattle.fk_kernel.specs.declared.read.Pick.{Pick}
 use Rattle.fk_kernel.specs.declared.read.Pick.TheVariants.{Forgets, Interrupt, Pending}
-use Rattle.fk_drive.specs.Driving.{Driven, first_driven, idle, picked, reads, sends, with_result}
+use Rattle.fk_drive.specs.Driving.{Driven, IsSentFrame, first_driven, idle, picked, reads, sends, with_result}
 use Rattle.fk_drive_frames.specs.OwnRequests.{first_opendir_unique}
 use Rattle.driven_sessions.proofs.Mounts.{DrivesMounting, mounts_next}
 
@@ -24,7 +23,7 @@ driven_by k = record { kernel = k; waiting = []; next = first_opendir_unique; as
 
 module _ (k : Kernel) (n : ℕ) (before : List Transfer) (run : DrivesMounting n (first_driven false) before (driven_by k)) where
   pub goes_over : (pick : Pick) → pick_refusal k pick ≡ None → (r : Request) → IsPicked k pick r → (frame : List ℕ)
-      → SaysRequest frame r → (result : WriteResult) → DrivesMounting (n + 0) (first_driven false) (before ++ sent frame result ∷ [])
+      → IsSentFrame frame r → (result : WriteResult) → DrivesMounting (n + 0) (first_driven false) (before ++ sent frame result ∷ [])
       (driven_by (record k { queues = after_pick k.queues pick }))
   goes_over pick may r is frame says result =
       let l : Kernel = record k { queues = after_pick k.queues pick } in

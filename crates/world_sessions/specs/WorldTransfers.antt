@@ -9,10 +9,10 @@ use Rattle.fuse_spec.specs.World.Events.{Event, Outcome}
 use Rattle.fuse_spec.specs.World.Events as event
 use Rattle.fuse_spec.specs.World.Steps.{Happens}
 use Rattle.fuse_spec.specs.World.Worlds.{Sent, World, first_world}
-use Rattle.fuse_frames.specs.RequestTies.{SaysRequest}
 use Rattle.fk_wire.specs.declared.opcode.Opcode.{Opcode}
 use Rattle.fk_kernel.specs.AwaitedReplies.{HasReplyHead, Says, awaited, head_unique, reply_to}
 use Rattle.fk_drive_frames.specs.Agreements.{IsOlderAgreement}
+use Rattle.fk_drive.specs.Driving.{IsSentFrame}
 
 -- The bytes are a reply under this unique, and say this to the request that awaits it, if one does. None is an agreement on a
 -- minor between 16 and 30, which this project's server never gives.
@@ -24,7 +24,7 @@ pub record IsReplyOf (k : Kernel) (bytes : List ℕ) (unique : ℕ) (wire : Wire
 
 -- A request that goes onto its link is sent in a frame that spells it.
 abbrev pub IsRequestTransfer : World → World → List Transfer → Type 0
-IsRequestTransfer w after log = (r : Request) × (after.requests ≡ w.requests ++ r ∷ []) × (frame : List ℕ) × SaysRequest frame r
+IsRequestTransfer w after log = (r : Request) × (after.requests ≡ w.requests ++ r ∷ []) × (frame : List ℕ) × IsSentFrame frame r
     × (result : WriteResult) × (log ≡ sent frame result ∷ [])
 
 -- A copy of a reply that the kernel takes is received in bytes that say it.

@@ -12,6 +12,7 @@ use Rattle.fk_drive.specs.Openings.{StopsAsking, turn_of}
 use Rattle.fk_drive.specs.Steps.{SendStep}
 use Rattle.fk_drive.proofs.Requests.{says_of, sent_for}
 use Rattle.fk_drive.proofs.Sent.{answered, sends_then, unsaid_until}
+use Rattle.fk_drive.proofs.SentFrames.{filled_frame, listing_frame}
 use Rattle.fk_drive.proofs.sending.send_opened.Goals as goal
 
 pub returns-in-NotYet-clause-sends : goal.returns-in-NotYet-clause-sends
@@ -48,7 +49,8 @@ returns-in-Handle-clause-sends g c request is under lists =
           c.open_directory.new.device c.send_listing.new.device first
           (driven kernel c.open_directory.new.connection (opened request c.in-Handle.fh))
           (driven kernel c.open_directory.new.connection idle) refl before log over ends (
-            sends_opened request c.in-Handle.fh refl sent.frame (sent.same request says) sent.handle log sent.sends,
+            sends_opened request c.in-Handle.fh refl sent.frame
+                (listing_frame request c.args.listing.node lists sent.frame (sent.same request says)) sent.handle log sent.sends,
             record { read = c.args.frame.now; is = is; only = sent.only },
           ),
     )
@@ -65,14 +67,16 @@ returns-in-NotKnown-clause-sends g c request is under lists =
     let asks : c.open_directory.new.connection.asks ≡ false =
     subst (λ (s : OpendirSaid). StopsAsking s c.open_directory.new.connection.asks) c.in-NotKnown.is c.in-Said.ensures.asks in
     let spells = c.written_is_spelled.ensures in
-    let says = says_of spells c.args.frame.now request is in (
+    let says = says_of spells c.args.frame.now request is in
+    let filled = sent_for spells c.args.frame.now request is free_fields sent.frame sent.filled in (
       idle,
       sends_then g.D.Device.logs g.met.D.Device.goes_on free_fields c.send_same.result c.args.device.now
           c.open_directory.new.device c.send_same.new.device first
           (driven kernel c.open_directory.new.connection (picked request))
           (driven kernel c.open_directory.new.connection idle) refl before log over ends (
-            sends request refl (λ asked. absurd (cc (asked, asks))) sent.frame (sent.same request says) log sent.sends,
-            sent_for spells c.args.frame.now request is free_fields sent.frame sent.filled,
+            sends request refl (λ asked. absurd (cc (asked, asks))) sent.frame
+                (filled_frame request free_fields sent.frame filled (sent.same request says)) log sent.sends,
+            filled,
           ),
     )
 

@@ -5,6 +5,7 @@ use Rattle.fk_drive.specs.Steps.{SendStep}
 use Rattle.fk_drive.proofs.Drivings.{one_run}
 use Rattle.fk_drive.proofs.Requests.{lists_of, not_listed, says_of, sent_for}
 use Rattle.fk_drive.proofs.Sent.{sent_until}
+use Rattle.fk_drive.proofs.SentFrames.{filled_frame}
 use Rattle.fk_drive.proofs.sending.send_read.Goals as goal
 
 pub returns-in-Some-clause-sends : goal.returns-in-Some-clause-sends
@@ -18,6 +19,7 @@ returns-in-None-clause-sends g c request is under =
     let (log, over, ends, sent) = c.send_same.ensures in
     let spells = c.written_is_spelled.ensures in
     let frame = c.args.frame.now in
+    let filled = sent_for spells frame request is c.args.free_fields sent.frame sent.filled in
     let first = driven c.args.kernel.now c.args.connection.now (picked request) in
     let last = driven c.args.kernel.now c.args.connection.now idle in (
       idle,
@@ -28,8 +30,10 @@ returns-in-None-clause-sends g c request is under =
         one_run (SendStep c.args.free_fields) first last log (
           sends request refl
               (λ asks left. not_listed spells frame request is (c.in-None.ensures.none asks left))
-              sent.frame (sent.same request (says_of spells frame request is)) log sent.sends,
-          sent_for spells frame request is c.args.free_fields sent.frame sent.filled,
+              sent.frame
+              (filled_frame request c.args.free_fields sent.frame filled (sent.same request (says_of spells frame request is))) log
+              sent.sends,
+          filled,
         ),
       ),
     )
