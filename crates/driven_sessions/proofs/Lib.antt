@@ -54,5 +54,6 @@ mod Listing
 mod Directories
 mod Uncounted
 mod Served
+mod Files
 pub mod Mounts
 pub mod Rules

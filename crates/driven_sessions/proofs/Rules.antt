@@ -8,6 +8,7 @@ use Rattle.fk_drive_theorem.proofs.RunsTally.{run_forgets}
 use Rattle.driven_sessions.specs.Rules.{KeepsRules, KeepsRulesIn}
 use Rattle.driven_sessions.proofs.BeforeInit.{early_requests_never}
 use Rattle.driven_sessions.proofs.Counted.{lookups_are_counted}
+use Rattle.driven_sessions.proofs.Files.UsedRightly.{files_used_rightly}
 use Rattle.driven_sessions.proofs.Forgotten.{empty_forgets_never}
 use Rattle.driven_sessions.proofs.Large.{large_writes_never}
 use Rattle.driven_sessions.proofs.LargeForgets.{large_forgets_never}
@@ -37,6 +38,7 @@ keeps_in asks log new run = record {
   uncounted_nodes = uncounted_never asks log new run;
   lookups = lookups_are_counted asks log new run;
   taken = taken_where_served asks log new run;
+  open_files = files_used_rightly asks log new run;
   answered_once = λ mid rest after. run_once mid rest new after;
   none_again = λ mid rest after no_mount. run_none_again mid rest new after no_mount;
   taken_once = λ first old was number mid takes rest after no_mount.

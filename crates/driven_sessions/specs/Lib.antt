@@ -3,4 +3,5 @@ pub mod Transfers
 pub mod Taken
 pub mod Driven
 pub mod Counted
+pub mod Files
 pub mod Rules

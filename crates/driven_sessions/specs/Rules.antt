@@ -7,6 +7,7 @@ use Rattle.fk_drive_theorem.specs.TakenOnce.{NoneAgain, TakesNone, TakesReplyTo,
 use Rattle.fk_drive_theorem.specs.Tallies.{ForgottenAsGathered, tally_of}
 use Rattle.driven_sessions.specs.Counted.{CountsLookups}
 use Rattle.driven_sessions.specs.Driven.{IsFreeOf, IsFreeWhereCarried, IsFreeWhereTaken, IsFreeWhereTakenAndCarried, IsOneMount, IsTakenWhereServed}
+use Rattle.driven_sessions.specs.Files.{KeepsFilesOpen}
 use Rattle.driven_sessions.specs.Groups.{is_of_early_requests, is_of_empty_forgets, is_of_interrupt_numbers, is_of_large_forgets, is_of_large_writes, is_of_late_inits, is_of_odd_numbers, is_of_one_thread, is_of_resends, is_of_shapes, is_of_uncounted_nodes, is_of_used_numbers}
 
 -- No session of what goes over the device in this run shows a fault of these groups, and the laws of driven runs hold of it.
@@ -29,8 +30,11 @@ pub record KeepsRulesIn {asks : Bool} {log : List Transfer} {new : Driven} (run 
   pub large_forgets : IsOneMount run → IsFreeWhereTakenAndCarried is_of_large_forgets run
   pub uncounted_nodes : IsOneMount run → IsFreeWhereTakenAndCarried is_of_uncounted_nodes run
   pub lookups : IsOneMount run → CountsLookups run
-  -- Where each reply is accepted, and the server has no fault, each was taken so.
+  -- Where each reply is accepted, and the server has no fault, each was taken so;
   pub taken : IsTakenWhereServed run
+  -- and where each agreement carries the codec's frames, each entry counts for certain, and the kernel mounts once, no use or
+  -- release of an open file has a fault.
+  pub open_files : IsOneMount run → KeepsFilesOpen run
   -- A call that was over in any run to this end is over, and has no other answer.
   pub answered_once : (mid : Driven) (rest : List Transfer) → Drives mid rest new → AnsweredOnce mid.kernel.vfs new.kernel.vfs
   -- Without a mount since, a number under which no request waited has none, and no reply to one that was answered is taken.

@@ -5,6 +5,7 @@ ghost use Rattle.fuse_device.specs.Transfers.{Transfer};
 ghost use Rattle.fk_drive.specs.Driving.{Driven, Drives, first_driven};
 ghost use Rattle.driven_sessions.specs.Transfers.{AllSent, IsShaped};
 ghost use Rattle.driven_sessions.specs.Driven.{NeverAccused, NeverAccusedMountedOnce, NeverAccusedMountedOnceWhereTaken, NeverAccusedWhereCarried, NeverAccusedWhereTaken};
+ghost use Rattle.driven_sessions.specs.Files.{FilesAreUsedRightly};
 ghost use Rattle.driven_sessions.specs.Groups.{is_of_early_requests, is_of_empty_forgets, is_of_interrupt_numbers, is_of_large_forgets, is_of_large_writes, is_of_late_inits, is_of_odd_numbers, is_of_one_thread, is_of_resends, is_of_shapes, is_of_uncounted_nodes, is_of_used_numbers};
 
 /// Each frame that is sent is a request of a row, under each agreement that carries the codec's frames: no extensions, names
@@ -78,4 +79,10 @@ pub fn forgets_are_of_what_is_counted()
 /// it.
 pub fn nodes_are_counted()
     ensures { NeverAccusedMountedOnceWhereTaken is_of_uncounted_nodes }
+{}
+
+/// Each file that a request uses or releases is open, in one mount: where each reply is accepted, the server has no fault, each
+/// agreement of the session carries the codec's frames, and no entry is of 2^63 bytes or more.
+pub fn files_are_used_rightly()
+    ensures { FilesAreUsedRightly }
 {}
