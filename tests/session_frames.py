@@ -7,10 +7,11 @@ arguments the files are compared with what is written here, and the status is 1 
 import sys
 from pathlib import Path
 
-from fuse_frames import (DIRECTORY, EAGAIN, EIO, ENOENT, ENOSYS, LINK, REGULAR, attributes, attributes_reply, copy_body, entry,
-                         getattr_body, init_reply, init_request, notification, numbers, opened, read_body, record,
+from fuse_frames import (DIRECTORY, EAGAIN, EIO, ENOENT, ENOSYS, LINK, REGULAR, attributes, attributes_reply, copy_body,
+                         entry, getattr_body, init_reply, init_request, notification, numbers, opened, read_body, record,
                          release_body, reply, request, setattr_body, text, write_body)
 from judged_session import Session
+import file_sessions
 import warning_sessions
 
 FOLDER = Path(__file__).resolve().parent / "sessions"
@@ -248,54 +249,6 @@ def forgets():
     s.read(request("GETATTR", 28, 6, getattr_body()))
     s.read(request("FORGET", 30, 6, numbers("Q", 1)))
     return s, s.end(entries=6, forgotten=1 + 0 + 3 + 1 + 1 + 1 + 0 + 1, unanswered=2)
-
-
-def open_files():
-    s = Session("File handles that are not open, and releases of them.")
-    s.begin()
-    s.ask("LOOKUP", 4, 1, text("a"), entry(2, 20))
-    s.ask("OPEN", 6, 2, numbers("II", 0, 0), opened(5))
-    shut = "kernel: file handle that is not open: node 2 file handle 7"
-    s.read(request("READ", 8, 2, read_body(7)), shut)
-    s.read(request("GETATTR", 10, 2, getattr_body(7)), shut)
-    s.read(request("SETATTR", 12, 2, setattr_body(7)), shut)
-    s.read(request("FLUSH", 14, 1, release_body(5)), "kernel: file handle that is not open: node 1 file handle 5")
-    s.read(request("READDIR", 16, 2, read_body(5)), "kernel: file handle that is not open: node 2 file handle 5")
-    s.read(request("COPY_FILE_RANGE", 18, 2, copy_body(5, 2, 7, 10)), shut)
-    s.write(reply(18, numbers("II", 10, 0)))
-    s.read(request("RELEASE", 20, 2, release_body(7)), "kernel: RELEASE of what is not open: node 2 file handle 7")
-    s.read(request("RELEASEDIR", 22, 2, release_body(5)), "kernel: RELEASE of what is not open: node 2 file handle 5")
-    # the READ waits, and then the last RELEASE comes
-    s.read(request("READ", 24, 2, read_body(5)))
-    s.read(request("RELEASE", 26, 2, release_body(5)), "kernel: RELEASE beside a use: node 2 file handle 5")
-    s.read(request("RELEASE", 28, 2, release_body(5)), "kernel: RELEASE of what is not open: node 2 file handle 5")
-    # a handle that was given twice is open until its second RELEASE
-    s.ask("OPEN", 30, 2, numbers("II", 0, 0), opened(9))
-    s.ask("OPEN", 32, 2, numbers("II", 0, 0), opened(9),
-          faults=("warning: file handle that is open given again: node 2 file handle 9",))
-    s.read(request("READ", 34, 2, read_body(9)))
-    s.read(request("RELEASE", 36, 2, release_body(9)))
-    s.write(reply(34))
-    s.read(request("RELEASE", 38, 2, release_body(9)))
-    return s, s.end(entries=1, unanswered=12)
-
-
-def files_that_are_not_opened():
-    s = Session("After ENOSYS to OPEN the file handle is 0; to OPENDIR likewise.")
-    s.begin()
-    s.ask("LOOKUP", 4, 1, text("a"), entry(2, 20))
-    s.read(request("READ", 6, 2, read_body(0)), "kernel: file handle that is not open: node 2 file handle 0")
-    s.ask("OPEN", 8, 2, numbers("II", 0, 0), error=ENOSYS)
-    s.read(request("READ", 10, 2, read_body(0)))
-    s.read(request("READ", 12, 2, read_body(1)), "kernel: file handle that is not open: node 2 file handle 1")
-    s.read(request("READDIR", 14, 1, read_body(0)), "kernel: file handle that is not open: node 1 file handle 0")
-    s.ask("OPENDIR", 16, 1, numbers("II", 0, 0), error=ENOSYS)
-    s.ask("READDIR", 18, 1, read_body(0))
-    # what CREATE opened is used, and not released
-    s.ask("CREATE", 20, 1, numbers("IIII", 0, 0o644, 0, 0) + text("b"), entry(3, 30) + opened(5))
-    s.ask("READ", 22, 3, read_body(5))
-    s.read(request("FORGET", 24, 3, numbers("Q", 1)))
-    return s, s.end(entries=2, forgotten=1, unanswered=4)
 
 
 def writes_cut_short():
@@ -765,8 +718,8 @@ def lines_of_a_capture():
 
 SESSIONS = [
     malformed_requests, later_opcodes, requests_before_init, numbers_of_requests, resends, resends_unasked, several_readers,
-    several_writers, interrupts, nodes_not_counted, names_that_are_missing, forgets, open_files, files_that_are_not_opened, writes_cut_short,
-    writes_of_a_page, replies, replies_to_interrupts, bodies, init_of_another_length, entries, entries_of_another_kind,
+    several_writers, interrupts, nodes_not_counted, names_that_are_missing, forgets, *file_sessions.SESSIONS,
+    writes_cut_short, writes_of_a_page, replies, replies_to_interrupts, bodies, init_of_another_length, entries, entries_of_another_kind,
     exported, nodes_of_two_files, init_of_another_version, frames_of_an_old_minor, frames_of_a_later_minor,
     security_contexts_without_a_length, flags_that_were_not_offered, second_word_of_flags, notifications, device, after_the_end, after_a_lost_reply, good_names, good_attributes, good_files, good_directories, good_notifications,
     good_extensions, good_minors, lines_of_a_capture, *warning_sessions.SESSIONS,

@@ -101,8 +101,9 @@ pub(crate) fn fault_of_release(
     ensures { (s : Session) → count ≡ opened s file → AreFlags s flags → used ≡ is_used s file
         → IsFault (BreaksRelease s file) result }
 {
-    let none = opens_none(flags, file.kind) && file.fh == 0;
-    if !none && count == 0 {
+    if opens_none(flags, file.kind) && file.fh == 0 {
+        None
+    } else if count == 0 {
         Some(Fault::ReleaseOfWhatIsNotOpen)
     } else if count == 1 && used {
         Some(Fault::ReleaseBesideAUse)

@@ -18,7 +18,7 @@ use Rattle.fuse_sessions.specs.Sessions.{Session, latest}
 use Rattle.fuse_sessions.specs.Waiting.{waits, is_named, is_used}
 use Rattle.fuse_sessions.specs.Numbers.{was_read, was_forget, is_out_of_order, was_anything_read, has_agreed, has_several_readers, has_several_threads, interrupts, agains, has_ended, is_surely_over}
 use Rattle.fuse_sessions.specs.Counts.{least_count, most_count, known}
-use Rattle.fuse_sessions.specs.OpenFiles.{opened, has_none, MayUse, HasOpen}
+use Rattle.fuse_sessions.specs.OpenFiles.{opened, has_none, needs_no_open, MayUse, HasOpen}
 use Rattle.fuse_sessions.specs.Warnings.{IsGivenAgain, IsOpenedAgain, IsThere, IsInterruptedByNobody, IsAgainTooOften}
 
 -- The first request is INIT, there is no other, and none comes before INIT is accepted.
@@ -77,10 +77,13 @@ abbrev pub BreaksUse : Session → OpenFile → Fault → Type 0
 BreaksUse s file fault.HandleNotOpen = ¬ MayUse s file
 BreaksUse s file f = ⊥
 
--- What is released is open, and as it is released last no request that waits uses it. (libfuse, low-level: release)
+-- What is released is open, and as it is released last no request that waits uses it, but where a request needs no open
+-- file: Linux then sends what it opened later under the same file handle, 0. (libfuse, low-level: release;
+-- linux/fs/fuse/file.c, `fuse_file_open`)
 abbrev pub BreaksRelease : Session → OpenFile → Fault → Type 0
 BreaksRelease s file fault.ReleaseOfWhatIsNotOpen = ¬ MayUse s file
-BreaksRelease s file fault.ReleaseBesideAUse = (opened s file ≡ 1) × IsTrue (is_used s file)
+BreaksRelease s file fault.ReleaseBesideAUse = IsFalse (needs_no_open s file) × (opened s file ≡ 1)
+    × IsTrue (is_used s file)
 BreaksRelease s file f = ⊥
 
 -- how many bytes a WRITE may have: Linux takes 4,096 where fewer are said

@@ -1,3 +1,4 @@
+pub mod Counterexamples
 pub mod Counts
 pub mod Faultless
 pub mod Faults

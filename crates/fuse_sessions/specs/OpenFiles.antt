@@ -33,9 +33,13 @@ abbrev pub IsUsable : ℕ → Bool → Type 0
 IsUsable count true = Unit {0}
 IsUsable count false = 0 < count
 
--- A request may use the file: it is open, or none of its kind is ever opened and its file handle is 0.
+-- No OPEN is needed of the file: none of its kind is opened any more, and its file handle is 0.
+abbrev pub needs_no_open : Session → OpenFile → Bool
+needs_no_open s file = has_none s file.kind && nat_eq file.fh 0
+
+-- A request may use the file: it is open, or needs not be.
 abbrev pub MayUse : Session → OpenFile → Type 0
-MayUse s file = IsUsable (opened s file) (has_none s file.kind && nat_eq file.fh 0)
+MayUse s file = IsUsable (opened s file) (needs_no_open s file)
 
 -- Some file of the node is open.
 abbrev pub HasOpen : Session → ℕ → Type 0

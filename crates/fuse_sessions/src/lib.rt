@@ -6,12 +6,14 @@
 #![tactic(auto)]
 
 pub mod act;
+pub mod counterexamples;
 pub mod fault;
 pub mod faultless;
 pub mod known;
 pub mod transfer;
 
 pub use act::{Act, Asked, File, Fit, OpenFile, OpenKind, Taken};
+pub use counterexamples::a_release_may_stand_beside_a_use;
 pub use fault::{Fault, Party};
 pub use faultless::faultless_sessions;
 pub use known::Known;
