@@ -127,8 +127,8 @@ fn digit_of(value: u8) -> u8
     value + 87
 }
 
-/// Spells each byte as a pair of digits. A digit is reckoned and not looked up, as the library does, so that many bytes are
-/// spelled at once.
+/// Spells each byte as a pair of digits. The library looks each digit up in a table; here it is reckoned, so that the compiler
+/// can spell many bytes at once.
 fn encode(text: &mut [u8], bytes: &[u8])
     requires { length text.old ≡ 2 * length bytes.now }
     ensures { text.new ≡ encode_lower bytes.now }
