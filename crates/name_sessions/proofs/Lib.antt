@@ -4,3 +4,4 @@ pub mod NameLaws
 pub mod FaultLaws
 pub mod NameFrameLaws
 pub mod TheoremLaws
+mod UnsureLaws

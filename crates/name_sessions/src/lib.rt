@@ -7,4 +7,4 @@
 
 mod theorem;
 
-pub use theorem::fault_of_a_removal;
+pub use theorem::{fault_of_a_removal, several_readers_hide_removals};
