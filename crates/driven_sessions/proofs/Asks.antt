@@ -1,5 +1,5 @@
 -- What the requests of a session ask, each under its number.
-use Rattle.std.proofs.Common.{◌≡◌, inl, inr, ℕ, ◌^◌, ◌&&◌, Bool, true, false, cond, not, List, [], ◌∷◌, ◌++◌, Option, Some, None, filter, nat_eq, nat_le, refl, sym, ◌∙◌, ap, subst, arith}
+use Rattle.std.proofs.Common.{◌≡◌, inl, inr, ℕ, ◌^◌, ◌&&◌, Bool, true, false, cond, not, List, [], ◌∷◌, ◌++◌, Option, Some, None, filter, nat_eq, nat_le, if◌then◌else◌, refl, sym, ◌∙◌, ap, subst, arith}
 use Rattle.std.specs.List.{list_all, list_any}
 use Rattle.std.specs.Map.{lookup}
 use Rattle.std.proofs.lemmas.Bool.{and_from, and_parts, false≢true}
@@ -12,6 +12,8 @@ use Rattle.fuse_frames.specs.RequestTies.{SaysRequest, asked_opcode}
 use Rattle.fk_drive.proofs.SentFrames.{said_opcode}
 use Rattle.fuse_protocol.specs.declared.opcode.Opcode.{Opcode}
 use Rattle.fuse_protocol.specs.declared.opcode.Opcode.TheVariants as op
+use Rattle.fuse_protocol.specs.declared.request.OpenHandle.{OpenHandle}
+use Rattle.fuse_protocol.specs.declared.request.OpenHandle.TheVariants as handle
 use Rattle.fuse_protocol.specs.Pairs.{pairs_of_row}
 use Rattle.fuse_protocol.specs.Requests.{RequestMessage}
 use Rattle.fuse_protocol.specs.Table.{code_of, row_at}
@@ -21,9 +23,10 @@ use Rattle.protocol_law.specs.ReplyLaw.{table_opcode}
 use Rattle.fuse_sessions.specs.declared.act.Act.{Act}
 use Rattle.fuse_sessions.specs.declared.act.Act.TheVariants as act
 use Rattle.fuse_sessions.specs.declared.act.Asked.{Asked}
+use Rattle.fuse_sessions.specs.declared.act.OpenFile.{OpenFile}
 use Rattle.fuse_sessions.specs.declared.known.Known.{Known}
 use Rattle.fuse_sessions.specs.Frames.{AreRequestActs}
-use Rattle.fuse_sessions.specs.RequestActs.{asked_of, asking, doing, forgets_in, resent}
+use Rattle.fuse_sessions.specs.RequestActs.{asked_of, asking, doing, forgets_in, naming, releasing, resent, using, writing}
 use Rattle.fuse_sessions.specs.Sessions.{Session}
 use Rattle.fuse_sessions.specs.UnreadRequests.{opcode_in, unique_in}
 use Rattle.fuse_sessions.specs.Waiting.{asked_by, ends, waiting, waits}
@@ -79,7 +82,7 @@ module _ (IsSuch : ℕ → Asked → Type 0) where
   waiting_each (a ∷ later) all = each_append (filter (λ e. not (list_any (ends e.0) later)) (asked_by a)) (waiting later)
       (each_kept _ (asked_by a) (asked_each a later all)) (waiting_each later (tail_ask a later all))
 
-  found_each : (unique : ℕ) (es : List (ℕ × Asked)) (asked : Asked) → EachAsked es → lookup (nat_eq unique) es ≡ Some asked
+  pub found_each : (unique : ℕ) (es : List (ℕ × Asked)) (asked : Asked) → EachAsked es → lookup (nat_eq unique) es ≡ Some asked
       → IsSuch unique asked
   found_each unique [] asked all there = absurd (cc there)
   found_each unique (e ∷ es) asked all there =
@@ -107,6 +110,60 @@ pub map_ask : (P Q : ℕ → Asked → Type 0) → ((unique : ℕ) (asked : Aske
 map_ask P Q to [] all = tt
 map_ask P Q to (act.Asks unique asked ∷ acts) all = (to unique asked all.0, map_ask P Q to acts all.1)
 map_ask P Q to (a ∷ acts) all = map_ask P Q to acts all
+
+-- Both hold of what is asked, where each does.
+pub zip_ask : (P Q : ℕ → Asked → Type 0) (acts : List Act) → AllAsk P acts → AllAsk Q acts → AllAsk (λ u a. P u a × Q u a) acts
+zip_ask P Q [] first second = tt
+zip_ask P Q (act.Asks unique asked ∷ acts) first second = ((first.0, second.0), zip_ask P Q acts first.1 second.1)
+zip_ask P Q (a ∷ acts) first second = zip_ask P Q acts first second
+
+-- ---- the acts of a row
+
+module _ (P : ℕ → Asked → Type 0) where
+  naming_ask : (node : ℕ) → AllAsk P (naming node)
+  naming_ask node = by (nat_eq node 0)
+    where
+      by : (b : Bool) → AllAsk P (if b then [] else act.Names node ∷ [])
+      by true = tt
+      by false = tt
+
+  using_ask : (file : Option OpenFile) → AllAsk P (using file)
+  using_ask None = tt
+  using_ask (Some file) = tt
+
+  releasing_ask : (o : Opcode) (node : ℕ) (h : OpenHandle) → AllAsk P (releasing o node h)
+  releasing_ask op.Release node (handle.File fh) = tt
+  releasing_ask op.Releasedir node (handle.Directory fh) = tt
+  releasing_ask op.Release node h = tt
+  releasing_ask op.Releasedir node h = tt
+  releasing_ask o node h = tt
+
+  writing_ask : (o : Opcode) (m : RequestMessage) → AllAsk P (writing o m)
+  writing_ask op.Write m = tt
+  writing_ask o m = tt
+
+  asking_ask : (o : Opcode) (m : RequestMessage) (a : Asked) → P m.unique a → AllAsk P (asking o m a)
+  asking_ask o m a such =
+      let one : List Act = naming a.nodeid in
+      let two : List Act = one ++ naming a.other in
+      let three : List Act = two ++ using a.uses in
+      let four : List Act = three ++ using a.copies_to in
+      let five : List Act = four ++ releasing o m.nodeid m.handle in
+      let six : List Act = five ++ writing o m in
+      append_ask P six (act.Asks m.unique a ∷ []) (append_ask P five (writing o m) (append_ask P four (releasing o m.nodeid m.handle)
+      (append_ask P three (using a.copies_to) (append_ask P two (using a.uses) (append_ask P one (naming a.other) (naming_ask a.nodeid)
+      (naming_ask a.other)) (using_ask a.uses)) (using_ask a.copies_to)) (releasing_ask o m.nodeid m.handle)) (writing_ask o m))
+      (such, tt)
+
+  -- What a row's acts ask is such, where its request is.
+  pub doing_ask : (again : Bool) (o : Opcode) (m : RequestMessage) → P m.unique (asked_of o m)
+      → AllAsk P (if again then resent o m else asking o m (asked_of o m))
+  doing_ask true o m such = (such, tt)
+  doing_ask false o m such = asking_ask o m (asked_of o m) such
+
+  pub pairs_ask : (pairs : List (ℕ × ℕ)) → AllAsk P (forgets_in pairs)
+  pairs_ask [] = tt
+  pairs_ask (p ∷ pairs) = pairs_ask pairs
 
 -- ---- the acts of a frame
 

@@ -1,5 +1,5 @@
 -- The acts by which none of the groups' faults is shown, whatever was before: all of those that a server shows.
-use Rattle.std.proofs.Common.{◌≡◌, inl, inr, ℕ, ◌==◌, ◌&&◌, ◌||◌, codes, map, nat_eq, nat_lt, Bool, true, false, not, List, [], ◌∷◌, ◌++◌, Option, Some, None, refl, sym, ◌∙◌, ap, drop, flat_map, bit_and, if◌then◌else◌}
+use Rattle.std.proofs.Common.{◌≡◌, inl, inr, ℕ, ◌==◌, ◌&&◌, ◌||◌, codes, map, nat_eq, nat_lt, Bool, true, false, not, List, [], ◌∷◌, ◌++◌, Option, Some, None, refl, sym, subst, ◌∙◌, ap, drop, flat_map, bit_and, if◌then◌else◌}
 use Rattle.std.specs.Prelude.{MatchBool}
 use Rattle.std.specs.List.{list_all}
 use Rattle.std.proofs.lemmas.Bool.{and_from, and_parts}
@@ -27,7 +27,7 @@ use Rattle.fuse_sessions.specs.declared.known.Known.{Known}
 use Rattle.fuse_sessions.specs.Sessions.{Session}
 use Rattle.fuse_sessions.specs.Waiting.{waits}
 use Rattle.fuse_sessions.specs.Faults.{BreaksArrival, BreaksBeginning, BreaksGift, BreaksAttributes, BreaksName, BreaksRelease, BreaksReply, BreaksReplyToInterrupt, BreaksTaking, BreaksUse, BreaksWrite, WarnsOfError, WarnsOfMissing, WarnsOfOpening, Breaks}
-use Rattle.fuse_sessions.specs.Frames.{number_in, error_in, is_resend, eintr, eintr_acts, replied, init_acts, of_version, of_offered, said_acts, listed_acts, is_to_interrupt, IsNotified, IsReplyBy, IsReplyTo, IsWritten}
+use Rattle.fuse_sessions.specs.Frames.{number_in, error_in, is_resend, eintr, eintr_acts, replied, init_acts, of_version, of_offered, said_acts, listed_acts, interrupt_acts, is_to_interrupt, IsNotified, IsReplyBy, IsReplyTo, IsWritten}
 use Rattle.fuse_sessions.specs.Fits.{fit_in, fit_of_another}
 use Rattle.fuse_sessions.specs.RequestActs.{is_name}
 use Rattle.fuse_sessions.specs.ReplyActs.{answer_acts, counting, entry_acts, failed_acts, is_kind, is_made, is_opened, kind_acts, kind_of, may_be_missing, opening, opening_none, record_acts, root_acts}
@@ -83,6 +83,18 @@ is_written a = is_shown a
 
 abbrev pub AreWritten : List Act → Type 0
 AreWritten acts = list_all is_written acts ≡ true
+
+-- What a server writes besides that it opens files.
+abbrev pub is_plain : Act → Bool
+is_plain (act.Opens file) = false
+is_plain a = is_written a
+
+abbrev pub ArePlain : List Act → Type 0
+ArePlain acts = list_all is_plain acts ≡ true
+
+is_written_where_plain : (a : Act) → is_plain a ≡ true → is_written a ≡ true
+is_written_where_plain (act.Opens file) is = cc
+is_written_where_plain a is = is
 
 -- Acts pass each test that those pass which pass this one.
 pub pass_on : (one other : Act → Bool) → ((a : Act) → one a ≡ true → other a ≡ true) → (acts : List Act)
@@ -264,41 +276,41 @@ pub by_bool : (b : Bool) (Goal P Q : Type 0) → (b ≡ true → P → Goal) →
 by_bool true Goal P Q first second is = first refl is
 by_bool false Goal P Q first second is = second refl is
 
-kind_calm : (a : Asked) (e : Entry) → AreWritten (kind_acts a e)
-kind_calm a e = either is_written (is_kind (kind_of e.attributes)) _ _
-    (either is_written (is_made a e) [] (act.Faulty fault.EntryOfAnotherKind ∷ []) refl refl) refl
+kind_plain : (a : Asked) (e : Entry) → ArePlain (kind_acts a e)
+kind_plain a e = either is_plain (is_kind (kind_of e.attributes)) _ _
+    (either is_plain (is_made a e) [] (act.Faulty fault.EntryOfAnotherKind ∷ []) refl refl) refl
 
-entry_calm : (certain : Bool) (o : Opcode) (a : Asked) (e : Entry) → AreWritten (entry_acts certain o a e)
-entry_calm certain o a e = either is_written (nat_eq e.nodeid 1) (root_acts a) _
-    (either is_written a.is_dots [] (act.Faulty fault.EntryOfTheRoot ∷ []) refl refl)
-    (either is_written (nat_eq e.nodeid 0) _ _
-    (either is_written (may_be_missing o) [] (act.Faulty fault.EntryOfNoNode ∷ []) refl refl)
-    (each_of is_written (kind_acts a e) _ (kind_calm a e) refl))
+entry_plain : (certain : Bool) (o : Opcode) (a : Asked) (e : Entry) → ArePlain (entry_acts certain o a e)
+entry_plain certain o a e = either is_plain (nat_eq e.nodeid 1) (root_acts a) _
+    (either is_plain a.is_dots [] (act.Faulty fault.EntryOfTheRoot ∷ []) refl refl)
+    (either is_plain (nat_eq e.nodeid 0) _ _
+    (either is_plain (may_be_missing o) [] (act.Faulty fault.EntryOfNoNode ∷ []) refl refl)
+    (each_of is_plain (kind_acts a e) _ (kind_plain a e) refl))
 
-records_calm : (certain : Bool) (a : Asked) (rs : List EntryRecordContent) → AreWritten (flat_map (record_acts certain a) rs)
-records_calm certain a [] = refl
-records_calm certain a (r ∷ rs) = each_of is_written (record_acts certain a r) _
-    (either is_written (is_name r.said.name (codes ".") || is_name r.said.name (codes "..")) []
-    (entry_acts certain op.Readdirplus a r.entry) refl (entry_calm certain op.Readdirplus a r.entry))
-    (records_calm certain a rs)
+records_plain : (certain : Bool) (a : Asked) (rs : List EntryRecordContent) → ArePlain (flat_map (record_acts certain a) rs)
+records_plain certain a [] = refl
+records_plain certain a (r ∷ rs) = each_of is_plain (record_acts certain a r) _
+    (either is_plain (is_name r.said.name (codes ".") || is_name r.said.name (codes "..")) []
+    (entry_acts certain op.Readdirplus a r.entry) refl (entry_plain certain op.Readdirplus a r.entry))
+    (records_plain certain a rs)
 
-counting_calm : (o : Opcode) (said most : ℕ) → AreWritten (counting o said most)
-counting_calm op.Write said most = either is_written (nat_lt most said) (act.Faulty fault.MoreThanWasAsked ∷ []) [] refl refl
-counting_calm op.CopyFileRange said most =
-    either is_written (nat_lt most said) (act.Faulty fault.MoreThanWasAsked ∷ []) [] refl refl
-counting_calm op.CopyFileRange64 said most =
-    either is_written (nat_lt most said) (act.Faulty fault.MoreThanWasAsked ∷ []) [] refl refl
-counting_calm o said most = refl
+counting_plain : (o : Opcode) (said most : ℕ) → ArePlain (counting o said most)
+counting_plain op.Write said most = either is_plain (nat_lt most said) (act.Faulty fault.MoreThanWasAsked ∷ []) [] refl refl
+counting_plain op.CopyFileRange said most =
+    either is_plain (nat_lt most said) (act.Faulty fault.MoreThanWasAsked ∷ []) [] refl refl
+counting_plain op.CopyFileRange64 said most =
+    either is_plain (nat_lt most said) (act.Faulty fault.MoreThanWasAsked ∷ []) [] refl refl
+counting_plain o said most = refl
 
-none_calm : (o : Opcode) → AreWritten (opening_none o)
-none_calm op.Open = refl
-none_calm op.Opendir = refl
-none_calm o = refl
+none_plain : (o : Opcode) → ArePlain (opening_none o)
+none_plain op.Open = refl
+none_plain op.Opendir = refl
+none_plain o = refl
 
-failed_calm : (o : Opcode) (node errno : ℕ) → AreWritten (failed_acts o node errno)
-failed_calm o node errno = each_of is_written (if nat_eq errno 38 then opening_none o else []) (missing_acts o node errno)
-    (either is_written (nat_eq errno 38) (opening_none o) [] (none_calm o) refl)
-    (either is_written (is_of_node o && is_missing errno) _ [] refl refl)
+pub failed_plain : (o : Opcode) (node errno : ℕ) → ArePlain (failed_acts o node errno)
+failed_plain o node errno = each_of is_plain (if nat_eq errno 38 then opening_none o else []) (missing_acts o node errno)
+    (either is_plain (nat_eq errno 38) (opening_none o) [] (none_plain o) refl)
+    (either is_plain (is_of_node o && is_missing errno) _ [] refl refl)
 
 opening_calm : (o : Opcode) (node fh : ℕ) → AreWritten (opening o node fh)
 opening_calm op.Open node fh = refl
@@ -307,85 +319,117 @@ opening_calm op.Create node fh = refl
 opening_calm op.Tmpfile node fh = refl
 opening_calm o node fh = refl
 
-listing_calm : (asked : ℕ) (offsets : List ℕ) → AreWritten (listing_acts asked offsets)
-listing_calm asked offsets =
+listing_plain : (asked : ℕ) (offsets : List ℕ) → ArePlain (listing_acts asked offsets)
+listing_plain asked offsets =
     let twice : List Act = act.Faulty fault.OffsetGivenTwice ∷ [] in
     let endless : List Act = act.Faulty fault.ListingWithoutEnd ∷ [] in
     let ends : Bool = is_offset asked (last_behind None offsets) in
-    each_of is_written (if repeats_behind None offsets then twice else []) (if ends then endless else [])
-    (either is_written (repeats_behind None offsets) twice [] refl refl) (either is_written ends endless [] refl refl)
+    each_of is_plain (if repeats_behind None offsets then twice else []) (if ends then endless else [])
+    (either is_plain (repeats_behind None offsets) twice [] refl refl) (either is_plain ends endless [] refl refl)
 
-answer_calm : (o : Opcode) (a : Asked) (content : AnswerContent) → AreWritten (answer_acts o a content)
-answer_calm o a (answer.failed errno) = failed_calm o a.nodeid errno
-answer_calm o a (answer.entry e) = entry_calm true o a e
-answer_calm o a (answer.attributes v) = refl
-answer_calm o a (answer.opened file) = opening_calm o a.nodeid file.handle
-answer_calm o a (answer.created e file) = each_of is_written (entry_acts true o a e) _ (entry_calm true o a e)
-    (either is_written (is_opened a e) (opening o e.nodeid file.handle) [] (opening_calm o e.nodeid file.handle) refl)
-answer_calm o a (answer.number n) = counting_calm o n a.writes
-answer_calm o a (answer.records rs) = listing_calm a.lists_from (map (λ r. r.off) rs)
-answer_calm o a (answer.entry_records rs) = each_of is_written (flat_map (record_acts true a) rs) _
-    (records_calm true a rs) (listing_calm a.lists_from (map (λ r. r.said.off) rs))
-answer_calm o a (answer.init i) = refl
-answer_calm o a other = refl
+-- Such acts, where those are that are plain, and what the opcode of a request opens.
+module _ (test : Act → Bool) (plain : (a : Act) → is_plain a ≡ true → test a ≡ true) where
+  abbrev AreSuch : List Act → Type 0
+  AreSuch acts = list_all test acts ≡ true
+
+  pub such : (acts : List Act) → ArePlain acts → AreSuch acts
+  such = pass_on is_plain test plain
+
+  abbrev pub OpensSuch : Opcode → Type 0
+  OpensSuch o = (node fh : ℕ) → list_all test (opening o node fh) ≡ true
+
+  answer_such : (o : Opcode) → OpensSuch o → (a : Asked) (content : AnswerContent) → AreSuch (answer_acts o a content)
+  answer_such o opens a (answer.failed errno) = such (failed_acts o a.nodeid errno) (failed_plain o a.nodeid errno)
+  answer_such o opens a (answer.entry e) = such (entry_acts true o a e) (entry_plain true o a e)
+  answer_such o opens a (answer.attributes v) = such (act.Describes a.nodeid (kind_of v.attributes) v.attributes.ino ∷ []) refl
+  answer_such o opens a (answer.opened file) = opens a.nodeid file.handle
+  answer_such o opens a (answer.created e file) = each_of test (entry_acts true o a e) _
+      (such (entry_acts true o a e) (entry_plain true o a e))
+      (either test (is_opened a e) (opening o e.nodeid file.handle) [] (opens e.nodeid file.handle) refl)
+  answer_such o opens a (answer.number n) = such (counting o n a.writes) (counting_plain o n a.writes)
+  answer_such o opens a (answer.records rs) =
+      such (listing_acts a.lists_from (map (λ r. r.off) rs)) (listing_plain a.lists_from (map (λ r. r.off) rs))
+  answer_such o opens a (answer.entry_records rs) =
+      such (flat_map (record_acts true a) rs ++ listing_acts a.lists_from (map (λ r. r.said.off) rs))
+      (each_of is_plain (flat_map (record_acts true a) rs) _ (records_plain true a rs)
+      (listing_plain a.lists_from (map (λ r. r.said.off) rs)))
+  answer_such o opens a (answer.init i) = such (act.Agrees i.max_write ∷ []) refl
+  answer_such o opens a other = refl
+
+  module _ (k : Known) (bytes : List ℕ) (t : Taken) where
+    pub replied_such : (t : Taken) (body : Fit) → AreSuch (replied bytes t body)
+    replied_such t body = such (replied bytes t body) (by t)
+      where
+        by : (t : Taken) → ArePlain (replied bytes t body)
+        by taken.Accepted = each_of is_plain (eintr_acts bytes taken.Accepted)
+            (act.Takes (number_in bytes) taken.Accepted body ∷ act.Replies (number_in bytes) taken.Accepted ∷ [])
+            (either is_plain (error_in bytes == eintr) (act.Interrupted (number_in bytes) ∷ []) [] refl refl) refl
+        by taken.NoEntry = refl
+        by taken.Invalid = refl
+        by taken.Failed = refl
+
+    pub init_plain : (o : Option InitRequest) (content : AnswerContent) → ArePlain (init_acts o content)
+    init_plain (Some r) (answer.init i) = each_of is_plain (of_version i) (of_offered r i)
+        (either is_plain (i.major == 7) [] (act.Faulty fault.InitOfAnotherVersion ∷ []) refl refl)
+        (either is_plain (bit_and i.flags r.flags == i.flags) [] (act.Faulty fault.FlagsThatWereNotOffered ∷ []) refl refl)
+    init_plain (Some r) content = refl
+    init_plain None content = refl
+
+    said_such : (o : Opcode) → OpensSuch o → (a : Asked) (t : Taken) (content : AnswerContent) → AreSuch (said_acts k o a t content)
+    said_such o opens a taken.Accepted content = each_of test (init_acts k.offered content) (answer_acts o a content)
+        (such (init_acts k.offered content) (init_plain k.offered content)) (answer_such o opens a content)
+    said_such o opens a taken.NoEntry content = refl
+    said_such o opens a taken.Invalid content = refl
+    said_such o opens a taken.Failed content = refl
+
+    listed_such : (o : Opcode) (a : Asked) (t : Taken) → AreSuch (listed_acts o a t bytes)
+    listed_such o a t = such (listed_acts o a t bytes) (by o t)
+      where
+        by : (o : Opcode) (t : Taken) → ArePlain (listed_acts o a t bytes)
+        by op.Readdirplus taken.Accepted = either is_plain (error_in bytes == 0)
+            (flat_map (record_acts false a) (entry_records_from 0 (drop 16 bytes))) []
+            (records_plain false a (entry_records_from 0 (drop 16 bytes))) refl
+        by op.Readdirplus t = refl
+        by o t = refl
+
+    by_such : (p : Option Opcode) → ((o : Opcode) → p ≡ Some o → OpensSuch o) → (a : Asked) (acts : List Act) (later : Known)
+        → IsReplyBy k bytes t p a acts later → AreSuch acts
+    by_such None opens a acts later is = ap (list_all test) is.0 ∙ replied_such t fit.MayFit
+    by_such (Some o) opens a acts later (inl (m, is, says)) =
+        let body : Fit = fit_in (row_at o).reply a.asked bytes in
+        ap (list_all test) says.0 ∙ each_of test (replied bytes t body) (said_acts k o a t m.answer)
+        (replied_such t body) (said_such o (opens o refl) a t m.answer)
+    by_such (Some o) opens a acts later (inr (none, is)) =
+        let body : Fit = fit_of_another (fit_in (row_at o).reply a.asked bytes) in
+        ap (list_all test) is.0 ∙ each_of test (act.Faulty fault.BodyOfAnotherRequest ∷ []) (replied bytes t body ++ listed_acts o a t bytes)
+        (such (act.Faulty fault.BodyOfAnotherRequest ∷ []) refl)
+        (each_of test (replied bytes t body) (listed_acts o a t bytes) (replied_such t body) (listed_such o a t))
+
+    to_such : (x : Option Asked) → ((a : Asked) (o : Opcode) → x ≡ Some a → a.opcode ≡ Some o → OpensSuch o) → (acts : List Act)
+        (later : Known) → IsReplyTo k bytes t x acts later → AreSuch acts
+    to_such None opens acts later is = ap (list_all test) is.0 ∙ replied_such t fit.MayFit
+    to_such (Some a) opens acts later is = by_such a.opcode (λ o at. opens a o refl at) a acts later is
+
+    -- So are the acts of what a server writes.
+    pub written_such : (s : Session) (acts : List Act) (later : Known)
+        → ((a : Asked) (o : Opcode) → waits s (number_in bytes) ≡ Some a → a.opcode ≡ Some o → OpensSuch o)
+        → IsWritten k s bytes t acts later → AreSuch acts
+    written_such s acts later opens (inl (head, is)) = by_bool (number_in bytes == 0) (AreSuch acts) _ _
+        (λ zero. notified) (λ some. by_bool (is_to_interrupt (number_in bytes) (waits s (number_in bytes)))
+        (AreSuch acts) _ _ (λ interrupt does. subst AreSuch (sym does.0) (such (interrupt_acts bytes t) refl))
+        (λ other. to_such (waits s (number_in bytes)) opens acts later)) is
+      where
+        notified : IsNotified k bytes t acts later → AreSuch acts
+        notified (inl (m, is, does)) = ap (list_all test) does.0
+            ∙ either test (is_resend bytes t) (act.Resends ∷ []) [] (such (act.Resends ∷ []) refl) refl
+        notified (inr (not, does)) = ap (list_all test) does.0 ∙ such (act.Faulty fault.MalformedNotification ∷ []) refl
+    written_such s acts later opens (inr (bad, faulty, same)) =
+        ap (list_all test) faulty ∙ such (act.Faulty fault.MalformedReply ∷ []) refl
 
 module _ (k : Known) (bytes : List ℕ) (t : Taken) where
-  replied_calm : (t : Taken) (body : Fit) → AreWritten (replied bytes t body)
-  replied_calm taken.Accepted body = each_of is_written (eintr_acts bytes taken.Accepted)
-      (act.Takes (number_in bytes) taken.Accepted body ∷ act.Replies (number_in bytes) taken.Accepted ∷ [])
-      (either is_written (error_in bytes == eintr) (act.Interrupted (number_in bytes) ∷ []) [] refl refl) refl
-  replied_calm taken.NoEntry body = refl
-  replied_calm taken.Invalid body = refl
-  replied_calm taken.Failed body = refl
-
-  init_calm : (o : Option InitRequest) (content : AnswerContent) → AreWritten (init_acts o content)
-  init_calm (Some r) (answer.init i) = each_of is_written (of_version i) (of_offered r i)
-      (either is_written (i.major == 7) [] (act.Faulty fault.InitOfAnotherVersion ∷ []) refl refl)
-      (either is_written (bit_and i.flags r.flags == i.flags) [] (act.Faulty fault.FlagsThatWereNotOffered ∷ []) refl refl)
-  init_calm (Some r) content = refl
-  init_calm None content = refl
-
-  said_calm : (o : Opcode) (a : Asked) (t : Taken) (content : AnswerContent) → AreWritten (said_acts k o a t content)
-  said_calm o a taken.Accepted content = each_of is_written (init_acts k.offered content) (answer_acts o a content)
-      (init_calm k.offered content) (answer_calm o a content)
-  said_calm o a taken.NoEntry content = refl
-  said_calm o a taken.Invalid content = refl
-  said_calm o a taken.Failed content = refl
-
-  listed_calm : (o : Opcode) (a : Asked) (t : Taken) → AreWritten (listed_acts o a t bytes)
-  listed_calm op.Readdirplus a taken.Accepted = either is_written (error_in bytes == 0)
-      (flat_map (record_acts false a) (entry_records_from 0 (drop 16 bytes))) []
-      (records_calm false a (entry_records_from 0 (drop 16 bytes))) refl
-  listed_calm op.Readdirplus a t = refl
-  listed_calm o a t = refl
-
-  by_calm : (o : Option Opcode) (a : Asked) (acts : List Act) (later : Known) → IsReplyBy k bytes t o a acts later
-      → AreWritten acts
-  by_calm None a acts later is = ap (list_all is_written) is.0 ∙ replied_calm t fit.MayFit
-  by_calm (Some o) a acts later (inl (m, is, says)) =
-      let body : Fit = fit_in (row_at o).reply a.asked bytes in
-      ap (list_all is_written) says.0 ∙ each_of is_written (replied bytes t body) (said_acts k o a t m.answer)
-      (replied_calm t body) (said_calm o a t m.answer)
-  by_calm (Some o) a acts later (inr (none, is)) =
-      let body : Fit = fit_of_another (fit_in (row_at o).reply a.asked bytes) in
-      ap (list_all is_written) is.0 ∙ each_of is_written (replied bytes t body) (listed_acts o a t bytes)
-      (replied_calm t body) (listed_calm o a t)
-
-  to_calm : (o : Option Asked) (acts : List Act) (later : Known) → IsReplyTo k bytes t o acts later → AreWritten acts
-  to_calm None acts later is = ap (list_all is_written) is.0 ∙ replied_calm t fit.MayFit
-  to_calm (Some a) acts later is = by_calm a.opcode a acts later is
-
   pub written_server : (s : Session) (acts : List Act) (later : Known) → IsWritten k s bytes t acts later → AreWritten acts
-  written_server s acts later (inl (head, is)) = by_bool (number_in bytes == 0) (AreWritten acts) _ _
-      (λ zero. notified) (λ some. by_bool (is_to_interrupt (number_in bytes) (waits s (number_in bytes)))
-      (AreWritten acts) _ _ (λ interrupt does. ap (list_all is_written) does.0)
-      (λ other. to_calm (waits s (number_in bytes)) acts later)) is
-    where
-      notified : IsNotified k bytes t acts later → AreWritten acts
-      notified (inl (m, is, does)) = ap (list_all is_written) does.0
-          ∙ either is_written (is_resend bytes t) (act.Resends ∷ []) [] refl refl
-      notified (inr (not, does)) = ap (list_all is_written) does.0
-  written_server s acts later (inr (bad, faulty, same)) = ap (list_all is_written) faulty
+  written_server s acts later = written_such is_written is_written_where_plain k bytes t s acts later
+      (λ a o at is. opening_calm o)
 
   pub written_shown : (s : Session) (acts : List Act) (later : Known) → IsWritten k s bytes t acts later → AreShown acts
   written_shown s acts later is = pass_on is_written is_shown is_shown_where_written acts (written_server s acts later is)

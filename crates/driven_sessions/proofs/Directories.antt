@@ -58,7 +58,7 @@ abbrev AreApart : List (ℕ × Opened) → Type 0
 AreApart [] = Unit {0}
 AreApart (e ∷ es) = Apart e.0 es × AreApart es
 
-each_map : (P Q : ℕ × Opened → Type 0) → ((e : ℕ × Opened) → P e → Q e) → (es : List (ℕ × Opened)) → EachIs P es → EachIs Q es
+pub each_map : (P Q : ℕ × Opened → Type 0) → ((e : ℕ × Opened) → P e → Q e) → (es : List (ℕ × Opened)) → EachIs P es → EachIs Q es
 each_map P Q to [] all = tt
 each_map P Q to (e ∷ es) all = (to e all.0, each_map P Q to es all.1)
 
@@ -67,11 +67,11 @@ each_both : (P Q R : ℕ × Opened → Type 0) → ((e : ℕ × Opened) → P e 
 each_both P Q R to [] all both = tt
 each_both P Q R to (e ∷ es) all both = (to e all.0 both.0, each_both P Q R to es all.1 both.1)
 
-each_push : (P : ℕ × Opened → Type 0) (es : List (ℕ × Opened)) (e : ℕ × Opened) → EachIs P es → P e → EachIs P (es ++ e ∷ [])
+pub each_push : (P : ℕ × Opened → Type 0) (es : List (ℕ × Opened)) (e : ℕ × Opened) → EachIs P es → P e → EachIs P (es ++ e ∷ [])
 each_push P [] e all is = (is, tt)
 each_push P (x ∷ es) e all is = (all.0, each_push P es e all.1 is)
 
-each_drop : (P : ℕ × Opened → Type 0) (before : List (ℕ × Opened)) (x : ℕ × Opened) (after : List (ℕ × Opened))
+pub each_drop : (P : ℕ × Opened → Type 0) (before : List (ℕ × Opened)) (x : ℕ × Opened) (after : List (ℕ × Opened))
     → EachIs P (before ++ x ∷ after) → EachIs P (before ++ after)
 each_drop P [] x after all = all.1
 each_drop P (e ∷ before) x after all = (all.0, each_drop P before x after all.1)
@@ -193,7 +193,7 @@ unlisted_of (unopened r error) = Some r
 unlisted_of turn = None
 
 -- What is opened is what the request lists.
-abbrev OpensListed : Turn → Type 0
+abbrev pub OpensListed : Turn → Type 0
 OpensListed (opening r unique node) = lists_body (Some r.body) node
 OpensListed (unopened r error) = (node : ℕ) × lists_body (Some r.body) node
 OpensListed turn = Unit {0}

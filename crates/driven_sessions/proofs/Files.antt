@@ -10,8 +10,23 @@ mod Picked
 mod Ties
 mod Short
 mod Growing
+mod Free
 mod Balance
 mod Waiting
 mod Present
 mod Last
+mod DirectoryFrames
+mod DirectoryReplies
+mod OpenDirectories
+mod DirectorySteps
+mod RunPresent
 pub mod UsedRightly
+pub mod DirectoriesUsedRightly
+mod DirectoryOpens
+mod ForgetActs
+mod ForgetFrames
+mod ForgetSteps
+mod DirectoriesShown
+mod UnopenedSteps
+pub mod NamedKept
+pub mod OpenedKept

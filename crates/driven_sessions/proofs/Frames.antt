@@ -12,7 +12,7 @@ use Rattle.fuse_spec.specs.Files.Operations as operation
 use Rattle.fuse_spec.specs.Kernel.Messages.{Forget, Request, RequestBody, asks, init, interrupt}
 use Rattle.fuse_spec.specs.Server.Server.{forgets_of}
 use Rattle.fuse_frames.specs.RequestTies.{SaysRequest, body_in}
-use Rattle.fk_drive_frames.specs.OwnRequests.{IsOpendir, IsReleasedir}
+use Rattle.fk_drive_frames.specs.OwnRequests.{IsOpendir, IsReleasedir, releasedir_fields}
 use Rattle.fuse_sessions.specs.UnreadRequests.{opcode_in, unique_in}
 
 -- ---- frames of the kernel's requests
@@ -218,6 +218,30 @@ releasedir_node bytes unique opened is low =
     let rest : List Field = free32 0 ∷ free32 0 ∷ free32 0 ∷ free32 0 ∷ u64 opened.fh ∷ u32 0x10000 ∷ u32 0 ∷ u64 0 ∷ [] in
     ap (number_at 16 8) (is.2 ∙ spellings-append (u32 64 ∷ u32 29 ∷ u64 unique ∷ u64 opened.nodeid ∷ []) rest)
     ∙ node_says 64 29 unique opened.nodeid (spellings rest) (omega arith) (omega arith) low is.0
+
+pub releasedir_handle : (bytes : List ℕ) (unique : ℕ) (opened : Opened) → IsReleasedir bytes unique opened → unique < 2 ^ 63
+    → number_at 40 8 bytes ≡ opened.fh
+releasedir_handle bytes unique opened is low =
+    let reads = reads_back (releasedir_fields unique opened) [] (
+      omega arith,
+      (
+        omega arith,
+        (
+          omega (arith, low),
+          (
+            is.0,
+            (
+              is.1,
+              (
+                omega arith,
+                (omega arith, (omega arith, tt)),
+              ),
+            ),
+          ),
+        ),
+      ),
+    ) tt in
+    ap (number_at 40 8) is.2 ∙ reads.1.1.1.1.0
 
 -- OPENDIR's frame, or RELEASEDIR's.
 abbrev pub IsOwn : List ℕ → ℕ → Type 0

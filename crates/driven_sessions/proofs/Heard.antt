@@ -24,7 +24,7 @@ use Rattle.fuse_sessions.specs.declared.act.Taken.TheVariants as taken
 use Rattle.fuse_sessions.specs.declared.known.Known.{Known}
 use Rattle.fuse_sessions.specs.declared.transfer.Transfer.{Transfer as Said}
 use Rattle.fuse_sessions.specs.declared.transfer.Transfer.TheVariants as said
-use Rattle.fuse_sessions.specs.Frames.{AreActs, AreReadActs, IsNotified, IsReplyBy, IsReplyOf, IsReplyTo, IsWritten, Lead, interrupt_acts, is_to_interrupt, number_in}
+use Rattle.fuse_sessions.specs.Frames.{AreActs, AreReadActs, IsHeaded, IsNotified, IsReplyBy, IsReplyOf, IsReplyTo, IsWritten, Lead, interrupt_acts, is_to_interrupt, number_in}
 use Rattle.fuse_sessions.specs.Sessions.{Session}
 use Rattle.fuse_sessions.specs.Waiting.{waits}
 use Rattle.driven_sessions.specs.Taken.{HasHeader, IsTaken, Outcome, written}
@@ -50,40 +50,48 @@ judged_before (t ∷ ts) k s later all (acts, known, are, leads) none =
 
 -- ---- a reply for which its request waits
 
+module _ (k : Known) (bytes : List ℕ) (u : ℕ) (is : number_in bytes ≡ u) (some : 2 ≤ u) (acts : List Act) (later : Known) (o : Opcode)
+  where
+    by_opcode : (a : Asked) (p : Option Opcode) → p ≡ Some o → IsReplyBy k bytes taken.Accepted p a acts later
+        → IsReplyOf k bytes taken.Accepted o a acts later
+    by_opcode a p same does =
+        subst (λ (x : Option Opcode). IsReplyBy k bytes taken.Accepted x a acts later) same does
+
+    to_waiting : (x : Option Asked) (a : Asked) → x ≡ Some a → a.opcode ≡ Some o
+        → MatchBool (is_to_interrupt u x) ((acts ≡ interrupt_acts bytes taken.Accepted) × (later ≡ k))
+        (IsReplyTo k bytes taken.Accepted x acts later) → IsReplyOf k bytes taken.Accepted o a acts later
+    to_waiting x a there asks does = by_opcode a a.opcode asks
+        (subst (λ (x : Option Asked). MatchBool (is_to_interrupt u x) ((acts ≡ interrupt_acts bytes taken.Accepted) × (later ≡ k))
+        (IsReplyTo k bytes taken.Accepted x acts later)) there does)
+
+    -- What is written under a good header is a reply to what its request asked.
+    pub headed_reply : (s : Session) (a : Asked) → waits s u ≡ Some a → a.opcode ≡ Some o → IsHeaded k s bytes taken.Accepted acts later
+        → IsReplyOf k bytes taken.Accepted o a acts later
+    headed_reply s a there asks does =
+        let placed = subst (λ (n : ℕ). MatchBool (n == 0) (IsNotified k bytes taken.Accepted acts later)
+        (MatchBool (is_to_interrupt n (waits s n)) ((acts ≡ interrupt_acts bytes taken.Accepted) × (later ≡ k))
+        (IsReplyTo k bytes taken.Accepted (waits s n) acts later))) is does in
+        to_waiting (waits s u) a there asks (past (u == 0) apart placed)
+      where
+        apart : (u == 0) ≡ false
+        apart = grind (arith, nat_tests, some)
+
+        past : (b : Bool) → b ≡ false → MatchBool b (IsNotified k bytes taken.Accepted acts later)
+            (MatchBool (is_to_interrupt u (waits s u)) ((acts ≡ interrupt_acts bytes taken.Accepted) × (later ≡ k))
+            (IsReplyTo k bytes taken.Accepted (waits s u) acts later))
+            → MatchBool (is_to_interrupt u (waits s u)) ((acts ≡ interrupt_acts bytes taken.Accepted) × (later ≡ k))
+            (IsReplyTo k bytes taken.Accepted (waits s u) acts later)
+        past true e placed = absurd (false≢true (sym e))
+        past false e placed = placed
+
 module _ (id : ℕ) (low : 2 ≤ id) (k : Known) (carries : Carries k.agreed) (bytes : List ℕ) (u : ℕ) (is : number_in bytes ≡ u)
     (some : 2 ≤ u) (acts : List Act) (later : Known) (o : CodecOpcode) where
-  by_opcode : (a : Asked) (p : Option Opcode) → p ≡ Some (table_opcode o) → IsReplyBy k bytes taken.Accepted p a acts later
-      → IsReplyOf k bytes taken.Accepted (table_opcode o) a acts later
-  by_opcode a p same does =
-      subst (λ (x : Option Opcode). IsReplyBy k bytes taken.Accepted x a acts later) same does
-
-  to_waiting : (x : Option Asked) (a : Asked) → x ≡ Some a → a.opcode ≡ Some (table_opcode o)
-      → MatchBool (is_to_interrupt u x) ((acts ≡ interrupt_acts bytes taken.Accepted) × (later ≡ k))
-      (IsReplyTo k bytes taken.Accepted x acts later) → IsReplyOf k bytes taken.Accepted (table_opcode o) a acts later
-  to_waiting x a there asks does = by_opcode a a.opcode asks
-      (subst (λ (x : Option Asked). MatchBool (is_to_interrupt u x) ((acts ≡ interrupt_acts bytes taken.Accepted) × (later ≡ k))
-      (IsReplyTo k bytes taken.Accepted x acts later)) there does)
-
   -- It is a reply to what its request asked.
   pub waited_reply : (s : Session) (a : Asked) → waits s u ≡ Some a → a.opcode ≡ Some (table_opcode o)
       → IsWritten k s bytes taken.Accepted acts later → (wire : WireReply) → Says o bytes wire
       → IsReplyOf k bytes taken.Accepted (table_opcode o) a acts later
   waited_reply s a there asks (inl (head, does)) wire says =
-      let placed = subst (λ (n : ℕ). MatchBool (n == 0) (IsNotified k bytes taken.Accepted acts later)
-      (MatchBool (is_to_interrupt n (waits s n)) ((acts ≡ interrupt_acts bytes taken.Accepted) × (later ≡ k))
-      (IsReplyTo k bytes taken.Accepted (waits s n) acts later))) is does in
-      to_waiting (waits s u) a there asks (past (u == 0) apart placed)
-    where
-      apart : (u == 0) ≡ false
-      apart = grind (arith, nat_tests, some)
-
-      past : (b : Bool) → b ≡ false → MatchBool b (IsNotified k bytes taken.Accepted acts later)
-          (MatchBool (is_to_interrupt u (waits s u)) ((acts ≡ interrupt_acts bytes taken.Accepted) × (later ≡ k))
-          (IsReplyTo k bytes taken.Accepted (waits s u) acts later))
-          → MatchBool (is_to_interrupt u (waits s u)) ((acts ≡ interrupt_acts bytes taken.Accepted) × (later ≡ k))
-          (IsReplyTo k bytes taken.Accepted (waits s u) acts later)
-      past true e placed = absurd (false≢true (sym e))
-      past false e placed = placed
+      headed_reply k bytes u is some acts later (table_opcode o) s a there asks does
   waited_reply s a there asks (inr (bad, does, same)) wire says =
       let read = replied_alike latest_minor k.agreed o (length bytes) bytes says.says.message carries (omega arith) says.says.spells in
       absurd (bad (read.1.frame, headed (number_in bytes == 0) read.1.error))

@@ -233,7 +233,7 @@ module _ (k : Known) (s : Session) (free : AreFree is_of_large_forgets [] s) (la
 
 -- ---- a run
 
-run_good : (asks : Bool) (log : List Transfer) (new : Driven) → Drives (first_driven asks) log new → (r : Request)
+pub run_good : (asks : Bool) (log : List Transfer) (new : Driven) → Drives (first_driven asks) log new → (r : Request)
     → held new.turn ≡ Some r → AreForgets (forgets_of r.body)
 run_good asks log new run = (run_sends (λ (r : Request). AreForgets (forgets_of r.body)) (λ frame. Unit {0}) Forgetting picked_good
     (λ frame r good says. tt) (λ frame unique even low own. tt) asks (run_forgetting asks) log new run).1

@@ -1,6 +1,7 @@
 -- A request's frame names nodes that are there, where its header and its struct name such.
 use Rattle.std.proofs.Common.{◌≡◌, ◌⊎◌, inl, inr, ℕ, ◌≤◌, ◌<◌, ◌^◌, ◌&&◌, ◌||◌, Bool, true, false, not, List, [], ◌∷◌, ◌++◌, codes, Option, Some, None, nat_eq, nat_le, refl, ap, sym, subst, ◌∙◌, arith, if◌then◌else◌, All}
 use Rattle.std.specs.List.{list_all}
+use Rattle.std.proofs.lemmas.Bool.Decides.{nat_tests}
 use Rattle.std.proofs.lemmas.Bool.{and_parts, false≢true}
 use Rattle.std.proofs.lemmas.List.Elements.{All-head, All-tail}
 use Rattle.fk_fields.specs.Fields.{ReadsAs, free32, number_at}
@@ -31,6 +32,7 @@ use Rattle.fuse_sessions.specs.Faults.{Breaks}
 use Rattle.fuse_sessions.specs.Frames.{AreRequestActs, IsRequestOf}
 use Rattle.fuse_sessions.specs.RequestActs.{asked_of, asking, forgets_in, looks_up, naming, node_asked, node_named, or_none, releasing, request_acts, resent, using, writing}
 use Rattle.fuse_sessions.specs.Sessions.{Session}
+use Rattle.fuse_sessions.specs.Waiting.{names_node}
 use Rattle.fuse_sessions.specs.UnreadRequests.{asking_unread, has_header, malformed, may_be_known, opcode_in, takes_no_reply, unique_in, unjudged}
 use Rattle.driven_sessions.specs.Groups.{is_of_uncounted_nodes}
 use Rattle.driven_sessions.proofs.Calm.{each_of, either, is_written, pass_on, takes_none}
@@ -103,38 +105,58 @@ pub record SaysNodes (IsSuch : ℕ → Type 0) (frame : List ℕ) : Type 0 where
   pub no_copy : nat_eq (opcode_in frame) 47 ≡ false
   pub no_long_copy : nat_eq (opcode_in frame) 53 ≡ false
 
-module _ (k : Known) (frame : List ℕ) (s : Session) (says : SaysNodes (IsThere s) frame) where
+module _ (IsSuch : ℕ → Type 0) (k : Known) (frame : List ℕ) (says : SaysNodes IsSuch frame) where
   -- The node of the header, where it counts as named.
-  header_there : (o : Opcode) (m : RequestMessage) → IsRequestOf k.agreed frame (o, m) → is_about (code_of o) ≡ true
-      → nat_eq (node_named o m.nodeid) 0 ≡ false → IsThere s (node_named o m.nodeid)
-  header_there op.Init m is about some = absurd (false≢true (sym some))
-  header_there op.Destroy m is about some = absurd (false≢true (sym some))
-  header_there o m is about some = subst (IsThere s) is.nodeid
+  header_such : (o : Opcode) (m : RequestMessage) → IsRequestOf k.agreed frame (o, m) → is_about (code_of o) ≡ true
+      → nat_eq (node_named o m.nodeid) 0 ≡ false → IsSuch (node_named o m.nodeid)
+  header_such op.Init m is about some = absurd (false≢true (sym some))
+  header_such op.Destroy m is about some = absurd (false≢true (sym some))
+  header_such o m is about some = subst IsSuch is.nodeid
       (says.own (ap is_about is.opcode ∙ about) (ap (λ (n : ℕ). nat_eq n 26) is.opcode))
 
-  asked_there : (o : Opcode) (m : RequestMessage) → IsRequestOf k.agreed frame (o, m) → is_about (code_of o) ≡ true
-      → nat_eq (node_asked o m) 0 ≡ false → IsThere s (node_asked o m)
-  asked_there o m is about some = by (looks_up (codes ".") o m) some
+  pub asked_such : (o : Opcode) (m : RequestMessage) → IsRequestOf k.agreed frame (o, m) → is_about (code_of o) ≡ true
+      → nat_eq (node_asked o m) 0 ≡ false → IsSuch (node_asked o m)
+  asked_such o m is about some = by (looks_up (codes ".") o m) some
     where
-      by : (b : Bool) → nat_eq (if b then 0 else node_named o m.nodeid) 0 ≡ false → IsThere s (if b then 0 else node_named o m.nodeid)
+      by : (b : Bool) → nat_eq (if b then 0 else node_named o m.nodeid) 0 ≡ false → IsSuch (if b then 0 else node_named o m.nodeid)
       by true none = absurd (false≢true (sym none))
-      by false some = header_there o m is about some
+      by false some = header_such o m is about some
 
   -- The further node.
-  other_there : (o : Opcode) (m : RequestMessage) → IsRequestOf k.agreed frame (o, m) → nat_eq (or_none m.node) 0 ≡ false
-      → IsThere s (or_none m.node)
-  other_there op.Rename m is some =
-      subst (IsThere s) (ap or_none is.node) (says.renamed (ap (λ (n : ℕ). nat_eq n 12) is.opcode))
-  other_there op.Link m is some =
-      subst (IsThere s) (ap or_none is.node) (says.linked (ap (λ (n : ℕ). nat_eq n 13) is.opcode))
-  other_there op.Rename2 m is some =
+  pub other_such : (o : Opcode) (m : RequestMessage) → IsRequestOf k.agreed frame (o, m) → nat_eq (or_none m.node) 0 ≡ false
+      → IsSuch (or_none m.node)
+  other_such op.Rename m is some =
+      subst IsSuch (ap or_none is.node) (says.renamed (ap (λ (n : ℕ). nat_eq n 12) is.opcode))
+  other_such op.Link m is some =
+      subst IsSuch (ap or_none is.node) (says.linked (ap (λ (n : ℕ). nat_eq n 13) is.opcode))
+  other_such op.Rename2 m is some =
       absurd (false≢true (sym says.no_rename2 ∙ ap (λ (n : ℕ). nat_eq n 45) is.opcode))
-  other_there op.CopyFileRange m is some =
+  other_such op.CopyFileRange m is some =
       absurd (false≢true (sym says.no_copy ∙ ap (λ (n : ℕ). nat_eq n 47) is.opcode))
-  other_there op.CopyFileRange64 m is some =
+  other_such op.CopyFileRange64 m is some =
       absurd (false≢true (sym says.no_long_copy ∙ ap (λ (n : ℕ). nat_eq n 53) is.opcode))
-  other_there o m is some = absurd (false≢true (sym some ∙ ap (λ (x : Option ℕ). nat_eq (or_none x) 0) (sym is.node)))
+  other_such o m is some = absurd (false≢true (sym some ∙ ap (λ (x : Option ℕ). nat_eq (or_none x) 0) (sym is.node)))
 
+  -- What waits for it names such nodes.
+  pub names_such : (o : Opcode) (m : RequestMessage) → IsRequestOf k.agreed frame (o, m) → is_about (code_of o) ≡ true
+      → (node : ℕ) → 1 ≤ node → names_node node (asked_of o m) ≡ true → IsSuch node
+  names_such o m is about node some names = by (nat_eq (node_asked o m) node) refl names
+    where
+      equal : (n : ℕ) → nat_eq n node ≡ true → n ≡ node
+      equal n e = grind (arith, nat_tests, e)
+
+      some_node : (n : ℕ) → n ≡ node → nat_eq n 0 ≡ false
+      some_node n same = grind (arith, nat_tests, same, some)
+
+      by : (b : Bool) → nat_eq (node_asked o m) node ≡ b → (b || nat_eq (or_none m.node) node) ≡ true → IsSuch node
+      by true e names =
+          let same = equal (node_asked o m) e in
+          subst IsSuch same (asked_such o m is about (some_node (node_asked o m) same))
+      by false e names =
+          let same = equal (or_none m.node) names in
+          subst IsSuch same (other_such o m is (some_node (or_none m.node) same))
+
+module _ (k : Known) (frame : List ℕ) (s : Session) (says : SaysNodes (IsThere s) frame) where
   -- ---- the acts
 
   naming_free : (t : Session) (node : ℕ) → (nat_eq node 0 ≡ false → IsThere t node) → AreFree is_of_uncounted_nodes t (naming node)
@@ -184,10 +206,10 @@ module _ (k : Known) (frame : List ℕ) (s : Session) (says : SaysNodes (IsThere
       let four : List Act = three ++ using asked.copies_to in
       let five : List Act = four ++ releasing o m.nodeid m.handle in
       let six : List Act = five ++ writing o m in
-      let first = naming_free t asked.nodeid (λ some. there_on s (front o m.unique) asked.nodeid refl (asked_there o m is about some)) in
+      let first = naming_free t asked.nodeid (λ some. there_on s (front o m.unique) asked.nodeid refl (asked_such (IsThere s) k frame says o m is about some)) in
       let second = free_append is_of_uncounted_nodes t one (naming asked.other) first (naming_free (t ++ one) asked.other
       (λ some. there_on t one asked.other (names_nothing asked.other asked.nodeid)
-      (there_on s (front o m.unique) asked.other refl (other_there o m is some)))) in
+      (there_on s (front o m.unique) asked.other refl (other_such (IsThere s) k frame says o m is some)))) in
       let third = free_append is_of_uncounted_nodes t two (using asked.uses) second
       (unnamed_free (t ++ two) (using asked.uses) (using_unnamed asked.uses)) in
       let fourth = free_append is_of_uncounted_nodes t three (using asked.copies_to) third

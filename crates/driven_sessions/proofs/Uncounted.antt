@@ -196,14 +196,14 @@ next_rises old log new (writes idles frame rest there handed on result l took lo
     by log coming left turn (releases_none unlisted) = omega arith
 next_rises old log new step = omega arith
 
-record Named (count : ℕ) (d : Driven) (k : Known) (s : Session) : Type 0 where
-  free : AreFree is_of_uncounted_nodes [] s
-  holds : k.unjudged ≡ None → Holds d s
-  listed : k.unjudged ≡ None → d.next < 2 ^ 63 → Listed count d s
+pub record Named (count : ℕ) (d : Driven) (k : Known) (s : Session) : Type 0 where
+  pub free : AreFree is_of_uncounted_nodes [] s
+  pub holds : k.unjudged ≡ None → Holds d s
+  pub listed : k.unjudged ≡ None → d.next < 2 ^ 63 → Listed count d s
 
 module _ (asks : Bool) (os : List Outcome) (k : Known) (s : Session) (first : s ≡ act.SeveralReaders ∷ [])
     (free : AreFree is_of_readings [] s) (none : (u : ℕ) → was_read s u ≡ false) where
-  run_named : (log : List Transfer) (new : Driven) (run : Drives (first_driven asks) log new) → mounts_in run ≤ 1
+  pub run_named : (log : List Transfer) (new : Driven) (run : Drives (first_driven asks) log new) → mounts_in run ≤ 1
       → GoOn (outcomes_of run) os → (ts : List Said) → AreSaid log ts → (later : Known) (whole : Session)
       (leads : Lead k s ts later whole) → AreTaken k s ts later whole leads os → HaveAgreed Carries k s ts later whole leads
       → Named (mounts_in run) new later whole

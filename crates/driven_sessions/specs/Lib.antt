@@ -4,4 +4,5 @@ pub mod Taken
 pub mod Driven
 pub mod Counted
 pub mod Files
+pub mod Forgets
 pub mod Rules

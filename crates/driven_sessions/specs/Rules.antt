@@ -1,5 +1,5 @@
 -- The rules that a kernel keeps as it is driven over a device.
-use Rattle.std.specs.Prelude.{◌≡◌, ◌≤◌, ℕ, Bool, List}
+use Rattle.std.specs.Prelude.{◌≡◌, ◌<◌, ◌≤◌, ◌^◌, ℕ, Bool, List, length, true}
 use Rattle.fuse_device.specs.Transfers.{Transfer}
 use Rattle.fk_drive.specs.Driving.{Driven, Drives, first_driven}
 use Rattle.fk_drive_theorem.specs.AnsweredOnce.{AnsweredOnce}
@@ -7,7 +7,8 @@ use Rattle.fk_drive_theorem.specs.TakenOnce.{NoneAgain, TakesNone, TakesReplyTo,
 use Rattle.fk_drive_theorem.specs.Tallies.{ForgottenAsGathered, tally_of}
 use Rattle.driven_sessions.specs.Counted.{CountsLookups}
 use Rattle.driven_sessions.specs.Driven.{IsFreeOf, IsFreeWhereCarried, IsFreeWhereTaken, IsFreeWhereTakenAndCarried, IsOneMount, IsTakenWhereServed}
-use Rattle.driven_sessions.specs.Files.{KeepsFilesOpen}
+use Rattle.driven_sessions.specs.Files.{KeepsDirectoriesOpen, KeepsFilesOpen}
+use Rattle.driven_sessions.specs.Forgets.{AreAllSent, KeepsNamed, KeepsOpened}
 use Rattle.driven_sessions.specs.Groups.{is_of_early_requests, is_of_empty_forgets, is_of_interrupt_numbers, is_of_large_forgets, is_of_large_writes, is_of_late_inits, is_of_odd_numbers, is_of_one_thread, is_of_resends, is_of_shapes, is_of_uncounted_nodes, is_of_used_numbers}
 
 -- No session of what goes over the device in this run shows a fault of these groups, and the laws of driven runs hold of it.
@@ -33,8 +34,14 @@ pub record KeepsRulesIn {asks : Bool} {log : List Transfer} {new : Driven} (run 
   -- Where each reply is accepted, and the server has no fault, each was taken so;
   pub taken : IsTakenWhereServed run
   -- and where each agreement carries the codec's frames, each entry counts for certain, and the kernel mounts once, no use or
-  -- release of an open file has a fault.
+  -- release of an open file has a fault;
   pub open_files : IsOneMount run → KeepsFilesOpen run
+  -- nor of a directory, where OPENDIR is asked and known, and numbers are left for it.
+  pub open_directories : asks ≡ true → length log < 2 ^ 61 → IsOneMount run → KeepsDirectoriesOpen run
+  -- As the last lookups of a node are forgotten no request that waits names it, where entries may count or not.
+  pub named_nodes : IsOneMount run → KeepsNamed run
+  -- Nor is a directory of it open then, where also each frame was sent, and numbers are left for OPENDIR and RELEASEDIR.
+  pub opened_nodes : length log < 2 ^ 61 → AreAllSent log → IsOneMount run → KeepsOpened run
   -- A call that was over in any run to this end is over, and has no other answer.
   pub answered_once : (mid : Driven) (rest : List Transfer) → Drives mid rest new → AnsweredOnce mid.kernel.vfs new.kernel.vfs
   -- Without a mount since, a number under which no request waited has none, and no reply to one that was answered is taken.

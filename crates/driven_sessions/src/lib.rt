@@ -10,8 +10,10 @@ mod never_accused;
 
 pub use counted_lookups::lookups_are_counted;
 pub use never_accused::{
-    files_are_used_rightly, forgets_are_of_lookups, forgets_are_of_what_is_counted,
-    frames_are_requests, init_is_first, interrupts_have_their_numbers, nodes_are_counted,
-    nothing_before_init, numbers_are_even, numbers_are_used_once, readers_are_several,
-    requests_are_not_resent, requests_are_whole, writes_are_small,
+    directories_are_used_rightly, files_are_used_rightly, forgets_are_of_lookups,
+    forgets_are_of_what_is_counted, frames_are_requests, init_is_first,
+    interrupts_have_their_numbers, named_nodes_are_kept, nodes_are_counted,
+    nodes_of_open_directories_are_kept, nothing_before_init, numbers_are_even,
+    numbers_are_used_once, readers_are_several, requests_are_not_resent, requests_are_whole,
+    writes_are_small,
 };

@@ -5,7 +5,8 @@ ghost use Rattle.fuse_device.specs.Transfers.{Transfer};
 ghost use Rattle.fk_drive.specs.Driving.{Driven, Drives, first_driven};
 ghost use Rattle.driven_sessions.specs.Transfers.{AllSent, IsShaped};
 ghost use Rattle.driven_sessions.specs.Driven.{NeverAccused, NeverAccusedMountedOnce, NeverAccusedMountedOnceWhereTaken, NeverAccusedWhereCarried, NeverAccusedWhereTaken};
-ghost use Rattle.driven_sessions.specs.Files.{FilesAreUsedRightly};
+ghost use Rattle.driven_sessions.specs.Files.{DirectoriesAreUsedRightly, FilesAreUsedRightly};
+ghost use Rattle.driven_sessions.specs.Forgets.{NamedAreKept, OpenedAreKept};
 ghost use Rattle.driven_sessions.specs.Groups.{is_of_early_requests, is_of_empty_forgets, is_of_interrupt_numbers, is_of_large_forgets, is_of_large_writes, is_of_late_inits, is_of_odd_numbers, is_of_one_thread, is_of_resends, is_of_shapes, is_of_uncounted_nodes, is_of_used_numbers};
 
 /// Each frame that is sent is a request of a row, under each agreement that carries the codec's frames: no extensions, names
@@ -85,4 +86,23 @@ pub fn nodes_are_counted()
 /// agreement of the session carries the codec's frames, and no entry is of 2^63 bytes or more.
 pub fn files_are_used_rightly()
     ensures { FilesAreUsedRightly }
+{}
+
+/// Each directory that a request uses or releases is open, in one mount, where OPENDIR is asked, fewer than 2^61 frames go over the
+/// device, each reply is accepted, the server has no fault and opens directories, and each agreement of the session carries the
+/// codec's frames.
+pub fn directories_are_used_rightly()
+    ensures { DirectoriesAreUsedRightly }
+{}
+
+/// As the last lookups of a node are forgotten no request that waits names it, in one mount: where each reply is accepted, the
+/// server has no fault, and each agreement of the session carries the codec's frames.
+pub fn named_nodes_are_kept()
+    ensures { NamedAreKept }
+{}
+
+/// As the last lookups of a node are forgotten no directory of it is open, in one mount: where also each frame was sent, fewer than
+/// 2^61 of them.
+pub fn nodes_of_open_directories_are_kept()
+    ensures { OpenedAreKept }
 {}

@@ -1,5 +1,5 @@
 -- The files that a kernel has open, and those that frames that wait will open, are open in the session as often at least.
-use Rattle.std.proofs.Common.{◌≡◌, inl, inr, ℕ, ◌+◌, ◌-◌, ◌≤◌, ◌<◌, ◌%◌, ◌^◌, ◌&&◌, Bool, true, false, cond, List, [], ◌∷◌, ◌++◌, Option, Some, None, nat_eq, refl, ap, sym, subst, ◌∙◌, arith}
+use Rattle.std.proofs.Common.{◌≡◌, inl, inr, ℕ, ◌+◌, ◌-◌, ◌≤◌, ◌<◌, ◌%◌, ◌^◌, Bool, true, false, cond, List, [], ◌∷◌, ◌++◌, Option, Some, None, nat_eq, refl, ap, sym, subst, ◌∙◌, arith}
 use Rattle.std.specs.Option.{option_map_or}
 use Rattle.std.specs.Prelude.{sum_by}
 use Rattle.std.specs.Borrow.{Bor}
@@ -40,6 +40,7 @@ use Rattle.protocol_law.specs.Law.{Carries}
 use Rattle.protocol_law.specs.ReplyLaw.{table_opcode}
 use Rattle.fuse_sessions.specs.declared.act.Act.{Act}
 use Rattle.fuse_sessions.specs.declared.act.Asked.{Asked}
+use Rattle.fuse_sessions.specs.declared.act.OpenKind.TheVariants as kind
 use Rattle.fuse_sessions.specs.declared.act.Taken.{Taken}
 use Rattle.fuse_sessions.specs.declared.act.Taken.TheVariants as taken
 use Rattle.fuse_sessions.specs.declared.known.Known.{Known}
@@ -69,8 +70,9 @@ use Rattle.driven_sessions.proofs.Files.Bodies.{AskAlike, AsksAlike, KnowsFiles,
 use Rattle.driven_sessions.proofs.Files.Frames.{no_files, own_files, request_files}
 use Rattle.driven_sessions.proofs.Files.Growing.{none_grows, received_grows, sends_grow, stopped_grows, written_opened}
 use Rattle.driven_sessions.proofs.Files.KernelFiles.{IsOpenedBy, alone_leaves, picked_sum, picked_used, taken_sum, used_by}
-use Rattle.driven_sessions.proofs.Files.Opened.{is_file, open_file, opens_in}
+use Rattle.driven_sessions.proofs.Files.Opened.{file_most, is_file, open_file, opens_in}
 use Rattle.driven_sessions.proofs.Files.Replies.{all_first, reply_opens}
+use Rattle.driven_sessions.proofs.Files.Rows.{files_of, handle_of}
 use Rattle.driven_sessions.proofs.Files.Short.{answer_length, raised_long, short_opens}
 use Rattle.driven_sessions.proofs.Files.Ties.{Ties, TiedFiles}
 
@@ -124,22 +126,6 @@ pub record Files (o : Opened) (count : ℕ) (d : Driven) (s : Session) : Type 0 
   pub balance : kernel_sum (is_file o) d.kernel + releases_of o (held d.turn) + owed ≤ opened s (open_file o)
   pub uses : uses_of o (held d.turn) ≤ opened s (open_file o)
 
--- A file of which one is opened is opened.
-file_most : (o q : Opened) (acts : List Act) → 1 ≤ opens_in (open_file q) acts → is_file o q ≤ opens_in (open_file o) acts
-file_most o q acts some = by (nat_eq q.nodeid o.nodeid) (nat_eq q.fh o.fh) refl refl
-  where
-    equal : (a b : ℕ) → nat_eq a b ≡ true → a ≡ b
-    equal a b e = grind (arith, nat_tests, e)
-
-    by : (a b : Bool) → nat_eq q.nodeid o.nodeid ≡ a → nat_eq q.fh o.fh ≡ b → cond (a && b) 1 0 ≤ opens_in (open_file o) acts
-    by true true node fh =
-        let same_node = equal q.nodeid o.nodeid node in
-        let same_fh = equal q.fh o.fh fh in
-        let same : q ≡ o = λ i. record { nodeid = same_node i; fh = same_fh i } in
-        subst (λ (x : Opened). 1 ≤ opens_in (open_file x) acts) same some
-    by true false node fh = omega arith
-    by false b node fh = omega arith
-
 -- ---- a frame that is received
 
 module _ (o : Opened) (count : ℕ) (old : Driven) (k : Known) (s : Session) (tells : Tells count old s) (ties : Ties old s)
@@ -174,10 +160,10 @@ module _ (o : Opened) (count : ℕ) (old : Driven) (k : Known) (s : Session) (te
             knows_files = files.2;
             few = λ operation wire q opcode says named gains nodes used.
                 let says_so = subst (λ (l : List ℕ). Says tied.1 l wire) (sym same) says in
-                file_most o q acts (reply_opens k carries b.now a acts later certain tied.1
+                file_most kind.File o q acts (reply_opens k carries b.now a acts later certain tied.1
                 (waited_reply 2 (omega arith) k carries b.now (head_unique frame) number tied.0 acts later tied.1 s a there tied.2
                 does wire says_so) nodes q operation wire opcode says_so
-                (λ node is. files.1.node (tied.2 ∙ opened_code tied.1 operation node opcode is) ∙ sym (named node is)) gains used);
+                (λ node is. files.1.files.node (tied.2 ∙ opened_code tied.1 operation node opcode is) ∙ sym (named node is)) gains used);
           }
         where
           mounted : (n : ℕ) → count ≡ n → 1 ≤ n
@@ -300,7 +286,7 @@ module _ (o : Opened) (count : ℕ) (old : Driven) (k : Known) (s : Session) (fi
         → new.waiting ≡ old.waiting → new.kernel ≡ old.kernel → held new.turn ≡ held old.turn
         → AreSaid (received frame ∷ []) ts → Files o (count + mounts_at step) new whole
     aside_files frame new step few same kernel turn is =
-        let grows = received_grows o k s frame ts is later whole leads in
+        let grows = received_grows (open_file o) k s frame ts is later whole leads in
         let was = files.balance in
         let used = files.uses in
         let sums : kernel_sum weight new.kernel ≡ kernel_sum weight old.kernel = ap (kernel_sum weight) kernel in
@@ -322,7 +308,7 @@ module _ (o : Opened) (count : ℕ) (old : Driven) (k : Known) (s : Session) (fi
         by (said.Written b t ∷ []) (acts, known, are, end) is agreed accepted free certain =
             let first : k.unjudged ≡ None = judged_before (said.Written b t ∷ []) k s later whole (acts, known, are, end) judged in
             let are_accepted = subst (λ (x : Taken). AreActs k s (said.Written b x) acts known) accepted.0 are in
-            let grows = written_opened o k s b t acts known are in
+            let grows = written_opened (open_file o) k s b t acts known are in
             let same : opened whole (open_file o) ≡ opened (s ++ acts) (open_file o) =
             ap (λ (x : Session). opened x (open_file o)) end.1 in
             let was = files.balance in
@@ -353,24 +339,25 @@ module _ (o : Opened) (count : ℕ) (old : Driven) (k : Known) (s : Session) (fi
         → HaveAgreed Carries k s ts later whole leads
         → (opened s (open_file o) ≤ opened whole (open_file o)) × (held turn ≡ None)
     released_grows frame log coming left turn (releases head below before after directory is apart bytes own log' went) said agreed =
-        let grows = sends_grow o k s bytes no_files (own_files bytes old.next below (inr (directory, own)))
+        let grows = sends_grow kind.File (files_of no_files) o k s bytes
+        (handle_of no_files k bytes (own_files bytes old.next below (inr (directory, own))))
         (own_shaped bytes old.next below (inr (directory, own))) log went ts said later whole leads agreed in
         (omega (arith, grows), refl)
     released_grows frame log coming left turn (releases_none unlisted) said agreed =
-        let same = none_grows o k s ts said later whole leads in (omega (arith, same), refl)
+        let same = none_grows (open_file o) k s ts said later whole leads in (omega (arith, same), refl)
 
     pub step_on : (log : List Transfer) (new : Driven) (step : DriveStep old log new) → count + mounts_at step ≤ 1
         → AreSaid log ts → HaveAgreed Carries k s ts later whole leads → later.unjudged ≡ None → AreAccepted ts
         → AreFree is_of_server s (added k s ts later whole leads) → AreCertain (added k s ts later whole leads)
         → Files o (count + mounts_at step) new whole
     step_on log new (alone l acts) few is agreed judged accepted free certain =
-        let same = none_grows o k s ts is later whole leads in
+        let same = none_grows (open_file o) k s ts is later whole leads in
         let sums = (alone_leaves old.kernel l acts apart (once_each old.kernel.queues one)).sums weight in
         let was = files.balance in
         let used = files.uses in
         goes_files log new (alone l acts) few refl (omega (arith, was, same, sums)) (omega (arith, used, same))
     step_on log new (reads idles pick may request picked_one) few is agreed judged accepted free certain =
-        let same = none_grows o k s ts is later whole leads in
+        let same = none_grows (open_file o) k s ts is later whole leads in
         let sums = picked_sum weight old.kernel (once_each old.kernel.queues one) pick request picked_one in
         let takes = picked_used weight old.kernel (once_each old.kernel.queues one) apart pick request picked_one in
         let all : kernel_sum weight old.kernel ≡ values_sum weight old.kernel.vfs.opens + values_sum weight old.kernel.closing
@@ -379,19 +366,22 @@ module _ (o : Opened) (count : ℕ) (old : Driven) (k : Known) (s : Session) (fi
         goes_files log new (reads idles pick may request picked_one) few refl (omega (arith, was, same, sums))
         (omega (arith, was, same, takes, all))
     step_on log new (sends request turn unlisted frame goes log' went) few is agreed judged accepted free certain =
-        let grows = sends_grow o k s frame request.body (request_files frame request goes) (said_shaped frame request goes.says) log went
+        let grows = sends_grow kind.File (files_of request.body) o k s frame
+        (handle_of request.body k frame (request_files frame request goes)) (said_shaped frame request goes.says) log went
         ts is later whole leads agreed in
         let back : releases_of o (held old.turn) ≡ sum_by weight (released_by request.body) = ap (λ (t : Turn). releases_of o (held t)) turn in
         let was = files.balance in
         goes_files log new (sends request turn unlisted frame goes log' went) few refl (omega (arith, was, grows, back)) (omega arith)
     step_on log new (sends_opened request fh turn frame goes handle log' went) few is agreed judged accepted free certain =
-        let grows = sends_grow o k s frame request.body (request_files frame request goes) (said_shaped frame request goes.says) log went
+        let grows = sends_grow kind.File (files_of request.body) o k s frame
+        (handle_of request.body k frame (request_files frame request goes)) (said_shaped frame request goes.says) log went
         ts is later whole leads agreed in
         let back : releases_of o (held old.turn) ≡ sum_by weight (released_by request.body) = ap (λ (t : Turn). releases_of o (held t)) turn in
         let was = files.balance in
         goes_files log new (sends_opened request fh turn frame goes handle log' went) few refl (omega (arith, was, grows, back)) (omega arith)
     step_on log new (opens request turn asks_it below node lists frame own log' went) few is agreed judged accepted free certain =
-        let grows = sends_grow o k s frame no_files (own_files frame old.next below (inl (node, own)))
+        let grows = sends_grow kind.File (files_of no_files) o k s frame
+        (handle_of no_files k frame (own_files frame old.next below (inl (node, own))))
         (own_shaped frame old.next below (inl (node, own))) log went ts is later whole leads agreed in
         let back : releases_of o (held old.turn) ≡ sum_by weight (released_by request.body) = ap (λ (t : Turn). releases_of o (held t)) turn in
         let takes : uses_of o (held old.turn) ≡ sum_by weight (used_by request.body) = ap (λ (t : Turn). uses_of o (held t)) turn in
@@ -408,7 +398,7 @@ module _ (o : Opened) (count : ℕ) (old : Driven) (k : Known) (s : Session) (fi
     step_on log new (is_garbled request unique node turn frame head under gives) few is agreed judged accepted free certain =
         aside_files frame new (is_garbled request unique node turn frame head under gives) few refl refl (sym (ap held turn)) is
     step_on log new (answers request error turn bytes reply result l took) few is agreed judged accepted free certain =
-        let same = none_grows o k s ts is later whole leads in
+        let same = none_grows (open_file o) k s ts is later whole leads in
         let short = answer_length request.unique error bytes reply in
         let sums = taken_sum old.kernel bytes result l took apart weight 0 (λ p at wire says q by_it.
         absurd (short_opens p bytes wire says (omega (arith, short)) (λ e. omega (arith, e, short)) (asked by_it.state) q by_it.gains
@@ -438,7 +428,7 @@ module _ (o : Opened) (count : ℕ) (old : Driven) (k : Known) (s : Session) (fi
     step_on log new (is_released unique turn frame head same) few is agreed judged accepted free certain =
         aside_files frame new (is_released unique turn frame head same) few refl refl (sym (ap held turn)) is
     step_on log new (ends end) few is agreed judged accepted free certain =
-        let grows = stopped_grows o k s end ts is later whole leads in
+        let grows = stopped_grows (open_file o) k s end ts is later whole leads in
         let was = files.balance in
         let used = files.uses in
         goes_files log new (ends end) few refl (omega (arith, was, grows)) (omega (arith, used, grows))

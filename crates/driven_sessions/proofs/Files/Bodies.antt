@@ -8,6 +8,7 @@ use Rattle.fuse_spec.specs.Files.Operations.{opening}
 use Rattle.fuse_spec.specs.Kernel.Kernel.{Kernel, body_of, is_live}
 use Rattle.fuse_spec.specs.Kernel.Messages.{RequestBody, asks}
 use Rattle.fuse_spec.specs.Kernel.Queues.{is_unread, request_under}
+use Rattle.fuse_spec.specs.Server.Server.{nodes_of_body}
 use Rattle.fuse_theorem.proofs.Requests.AskKept.{StillThere}
 use Rattle.fk_kernel.specs.AwaitedReplies.{head_unique}
 use Rattle.fk_kernel.specs.Picks.{after_pick}
@@ -32,8 +33,9 @@ abbrev pub node_opened_by : RequestBody → ℕ
 node_opened_by (asks (opening node)) = node
 node_opened_by body = 0
 
--- Two requests open one node, and read or write one file, or neither does.
+-- Two requests name the same nodes, open one node, and read or write one file, or neither does.
 pub record AskAlike (a b : RequestBody) : Type 0 where
+  pub nodes : nodes_of_body a ≡ nodes_of_body b
   pub node : node_opened_by a ≡ node_opened_by b
   pub files : used_by a ≡ used_by b
 
@@ -44,6 +46,7 @@ AsksAlike body u k = (r : QueuedRequest Purpose) → request_under k.queues u �
 
 alike_stable : (a b : RequestBody) → Stable (AskAlike a b)
 alike_stable a b s = record {
+  nodes = same_list same_number _ _ (λ no. s (λ e. no e.nodes));
   node = same_number _ _ (λ no. s (λ e. no e.node));
   files = same_list same_opened _ _ (λ no. s (λ e. no e.files));
 }

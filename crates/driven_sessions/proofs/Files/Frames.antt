@@ -59,7 +59,7 @@ module _ (frame : List ℕ) (r : Request) (goes : IsSentFrame frame r) where
   code : opcode_in frame ≡ codec_code (opcode_of content)
   code = goes.says.spells.3.1.0
 
-  node_read : (b : Bool) → b ≡ true → ReadsAs 16 (nodeid_field b nodeid ∷ free32 0 ∷ free32 0 ∷ free32 0 ∷ free32 0
+  pub node_read : (b : Bool) → b ≡ true → ReadsAs 16 (nodeid_field b nodeid ∷ free32 0 ∷ free32 0 ∷ free32 0 ∷ free32 0
       ∷ request_body content) frame → number_at 16 8 frame ≡ nodeid
   node_read true is reads = reads.0
   node_read false is reads = absurd (false≢true is)

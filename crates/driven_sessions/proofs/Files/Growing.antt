@@ -8,18 +8,19 @@ use Rattle.std.proofs.lemmas.List.Sums.{sum_by-cons}
 use Rattle.fuse_device.specs.declared.device.DeviceEnd.{DeviceEnd}
 use Rattle.fuse_device.specs.Transfers.{Transfer, received, stopped}
 use Rattle.fuse_spec.specs.declared.Opened.{Opened}
-use Rattle.fuse_spec.specs.Kernel.Messages.{RequestBody}
-use Rattle.fuse_theorem.specs.OpenNumbers.{released_by}
 use Rattle.fk_drive.specs.Driving.{SendsFrame, at_end, with_result}
+use Rattle.fuse_protocol.specs.declared.opcode.Opcode.{Opcode}
+use Rattle.fuse_protocol.specs.Requests.{RequestMessage}
 use Rattle.protocol_law.specs.Law.{Carries}
 use Rattle.fuse_sessions.specs.declared.act.Act.{Act}
 use Rattle.fuse_sessions.specs.declared.act.Act.TheVariants as act
 use Rattle.fuse_sessions.specs.declared.act.OpenFile.{OpenFile}
+use Rattle.fuse_sessions.specs.declared.act.OpenKind.{OpenKind}
 use Rattle.fuse_sessions.specs.declared.act.Taken.{Taken}
 use Rattle.fuse_sessions.specs.declared.known.Known.{Known}
 use Rattle.fuse_sessions.specs.declared.transfer.Transfer.{Transfer as Said}
 use Rattle.fuse_sessions.specs.declared.transfer.Transfer.TheVariants as said
-use Rattle.fuse_sessions.specs.Frames.{AreActs, AreReadActs, AreRequestActs, Lead}
+use Rattle.fuse_sessions.specs.Frames.{AreActs, AreReadActs, AreRequestActs, IsRequestOf, Lead}
 use Rattle.fuse_sessions.specs.OpenFiles.{opened, releases_this}
 use Rattle.fuse_sessions.specs.Sessions.{Session}
 use Rattle.driven_sessions.specs.Driven.{HaveAgreed}
@@ -27,13 +28,10 @@ use Rattle.driven_sessions.specs.Transfers.{AreSaid, IsShaped}
 use Rattle.driven_sessions.proofs.Calm.{AreWritten, is_written, written_server}
 use Rattle.driven_sessions.proofs.Never.{by_judged}
 use Rattle.driven_sessions.proofs.Files.FrameActs.{frame_acts}
-use Rattle.driven_sessions.proofs.Files.Frames.{SaysFiles}
-use Rattle.driven_sessions.proofs.Files.Opened.{is_file, open_file, opened_on, opens_in, releases_in}
+use Rattle.driven_sessions.proofs.Files.Opened.{as_file, is_file, opened_on, opens_in, releases_in}
+use Rattle.driven_sessions.proofs.Files.Rows.{HandleOf, Handles}
 
-module _ (o : Opened) where
-  abbrev file : OpenFile
-  file = open_file o
-
+module _ (file : OpenFile) where
   written_releases : (acts : List Act) → AreWritten acts → releases_in file acts ≡ 0
   written_releases [] are = refl
   written_releases (a ∷ acts) are =
@@ -68,27 +66,6 @@ module _ (o : Opened) where
       (λ why unjudged none. ap (releases_in file) none.0) are in
       omega (arith, on, none)
 
-  -- A request is sent, or not.
-  pub sends_grow : (k : Known) (s : Session) (frame : List ℕ) (body : RequestBody) → SaysFiles body frame → IsShaped frame
-      → (log : List Transfer) → SendsFrame frame log → (ts : List Said) → AreSaid log ts → (later : Known) (all : Session)
-      (leads : Lead k s ts later all) → HaveAgreed Carries k s ts later all leads
-      → opened s file ≤ opened all file + sum_by (is_file o) (released_by body)
-  sends_grow k s frame body says shaped log (with_result result) (said.Request b ∷ []) is later all (acts, known, are, leads) agreed =
-      let on = opened_on file s acts in
-      let few : releases_in file acts ≤ sum_by (is_file o) (released_by body) =
-      by_judged (releases_in file acts ≤ sum_by (is_file o) (released_by body)) k.unjudged
-      (AreReadActs k s (said.Request b) acts known) (λ why. (acts ≡ []) × (known ≡ k))
-      (λ judged does. (frame_acts body k frame says shaped agreed.0 acts
-      (subst (λ (l : List ℕ). AreRequestActs k l acts) is.0 does.0)).releases o)
-      (λ why unjudged none. let zero : releases_in file acts ≡ 0 = ap (releases_in file) none.0 in omega (arith, zero)) are in
-      let same : opened all file ≡ opened (s ++ acts) file = ap (λ (x : Session). opened x file) leads.1 in
-      omega (arith, on, few, same)
-  sends_grow k s frame body says shaped log (at_end end) (said.Ended ∷ []) is later all (acts, known, are, leads) agreed =
-      let on = ended_opened k s acts known are in
-      let same : opened all file ≡ opened (s ++ acts) file = ap (λ (x : Session). opened x file) leads.1 in
-      omega (arith, on, same)
-  sends_grow k s frame body says shaped log went ts is later all leads agreed = absurd search
-
   pub none_grows : (k : Known) (s : Session) (ts : List Said) → AreSaid [] ts → (later : Known) (all : Session)
       → Lead k s ts later all → opened all file ≡ opened s file
   none_grows k s [] is later all leads = ap (λ (x : Session). opened x file) leads.1
@@ -110,3 +87,25 @@ module _ (o : Opened) where
       let same : opened all file ≡ opened (s ++ acts) file = ap (λ (x : Session). opened x file) leads.1 in
       omega (arith, on, same)
   stopped_grows k s end ts is later all leads = absurd search
+
+module _ (which : OpenKind) (handles : Handles) (o : Opened) where
+  -- A request is sent, or not.
+  pub sends_grow : (k : Known) (s : Session) (frame : List ℕ) → ((o : Opcode) (m : RequestMessage) → IsRequestOf k.agreed frame (o, m)
+      → HandleOf which handles o m.nodeid m.node m.handle) → IsShaped frame → (log : List Transfer) → SendsFrame frame log → (ts : List Said) → AreSaid log ts → (later : Known) (all : Session)
+      (leads : Lead k s ts later all) → HaveAgreed Carries k s ts later all leads
+      → opened s (as_file which o) ≤ opened all (as_file which o) + sum_by (is_file o) handles.released
+  sends_grow k s frame handle_of shaped log (with_result result) (said.Request b ∷ []) is later all (acts, known, are, leads) agreed =
+      let on = opened_on (as_file which o) s acts in
+      let few : releases_in (as_file which o) acts ≤ sum_by (is_file o) handles.released =
+      by_judged (releases_in (as_file which o) acts ≤ sum_by (is_file o) handles.released) k.unjudged
+      (AreReadActs k s (said.Request b) acts known) (λ why. (acts ≡ []) × (known ≡ k))
+      (λ judged does. (frame_acts which handles k frame handle_of shaped agreed.0 acts
+      (subst (λ (l : List ℕ). AreRequestActs k l acts) is.0 does.0)).releases o)
+      (λ why unjudged none. let zero : releases_in (as_file which o) acts ≡ 0 = ap (releases_in (as_file which o)) none.0 in omega (arith, zero)) are in
+      let same : opened all (as_file which o) ≡ opened (s ++ acts) (as_file which o) = ap (λ (x : Session). opened x (as_file which o)) leads.1 in
+      omega (arith, on, few, same)
+  sends_grow k s frame handle_of shaped log (at_end end) (said.Ended ∷ []) is later all (acts, known, are, leads) agreed =
+      let on = ended_opened (as_file which o) k s acts known are in
+      let same : opened all (as_file which o) ≡ opened (s ++ acts) (as_file which o) = ap (λ (x : Session). opened x (as_file which o)) leads.1 in
+      omega (arith, on, same)
+  sends_grow k s frame handle_of shaped log went ts is later all leads agreed = absurd search

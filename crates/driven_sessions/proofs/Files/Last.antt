@@ -32,6 +32,7 @@ use Rattle.fk_drive.specs.Driving.{Driven, DriveStep, ReleasesBehind, Turn, alon
 use Rattle.fk_drive_theorem.proofs.OneEach.{OneEach}
 use Rattle.protocol_law.specs.Law.{Carries}
 use Rattle.fuse_sessions.specs.declared.act.Asked.{Asked}
+use Rattle.fuse_sessions.specs.declared.act.OpenFile.{OpenFile}
 use Rattle.fuse_sessions.specs.declared.known.Known.{Known}
 use Rattle.fuse_sessions.specs.declared.transfer.Transfer.{Transfer as Said}
 use Rattle.fuse_sessions.specs.Frames.{Lead}
@@ -56,18 +57,18 @@ use Rattle.driven_sessions.proofs.Files.Waiting.{waits_grow}
 
 -- ---- no request that waits uses a file
 
-abbrev pub UsesNot : Opened → ℕ → Asked → Type 0
-UsesNot o u a = uses_file (open_file o) a ≡ false
+abbrev pub UsesNot : OpenFile → ℕ → Asked → Type 0
+UsesNot file u a = uses_file file a ≡ false
 
-pub none_used : (o : Opened) (es : List (ℕ × Asked)) → EachAsked (UsesNot o) es
-    → list_any (λ (e : ℕ × Asked). uses_file (open_file o) e.1) es ≡ false
-none_used o [] each = refl
-none_used o (e ∷ es) each = ap (λ (b : Bool). b || list_any (λ (x : ℕ × Asked). uses_file (open_file o) x.1) es) each.0
-    ∙ none_used o es each.1
+pub none_used : (file : OpenFile) (es : List (ℕ × Asked)) → EachAsked (UsesNot file) es
+    → list_any (λ (e : ℕ × Asked). uses_file file e.1) es ≡ false
+none_used file [] each = refl
+none_used file (e ∷ es) each = ap (λ (b : Bool). b || list_any (λ (x : ℕ × Asked). uses_file file x.1) es) each.0
+    ∙ none_used file es each.1
 
 -- Where the file that is held to be released is open once, no request that waits uses it.
 abbrev pub Last : Opened → Driven → Session → Type 0
-Last o d s = 1 ≤ releases_of o (held d.turn) → opened s (open_file o) ≡ 1 → EachAsked (UsesNot o) (waiting s)
+Last o d s = 1 ≤ releases_of o (held d.turn) → opened s (open_file o) ≡ 1 → EachAsked (UsesNot (open_file o)) (waiting s)
 
 -- ---- a request that is there uses a file that the kernel has
 
@@ -121,9 +122,9 @@ module _ (o : Opened) (count : ℕ) (old : Driven) (s : Session) (last : Last o 
     (apart : OpensApart old.kernel.vfs old.kernel.closing) where
   -- A RELEASE is read, and a request uses the file: then it is open twice.
   picked_last : (pick : Pick) (request : Request) → IsPicked old.kernel pick request → is_live old.kernel.phase ≡ true
-      → 1 ≤ sum_by (is_file o) (released_by request.body) → opened s (open_file o) ≡ 1 → EachAsked (UsesNot o) (waiting s)
+      → 1 ≤ sum_by (is_file o) (released_by request.body) → opened s (open_file o) ≡ 1 → EachAsked (UsesNot (open_file o)) (waiting s)
   picked_last pick request is live some once = each_map
-      (λ u a. (TiedFiles old.kernel u a × WaitsThere old.kernel u a) × UsesNone u a) (UsesNot o)
+      (λ u a. (TiedFiles old.kernel u a × WaitsThere old.kernel u a) × UsesNone u a) (UsesNot (open_file o))
       (λ u a x. by u a x (uses_file (open_file o) a) refl) (waiting s)
       (each_zip (λ u a. TiedFiles old.kernel u a × WaitsThere old.kernel u a) UsesNone (waiting s)
       (each_zip (TiedFiles old.kernel) (WaitsThere old.kernel) (waiting s) (waiting_each (TiedFiles old.kernel) s ties.asks)
@@ -143,7 +144,7 @@ module _ (o : Opened) (count : ℕ) (old : Driven) (s : Session) (last : Last o 
       low u a x less uses =
           let tied = x.0 less in
           let knows = tied.2 live in
-          there (request_under old.kernel.queues u) refl tied.0 (tied.1.uses o uses) knows.1
+          there (request_under old.kernel.queues u) refl tied.0 (tied.1.files.uses o uses) knows.1
         where
           there : (y : Option (QueuedRequest Purpose)) → request_under old.kernel.queues u ≡ y → (body : RequestBody)
               → used_by body ≡ o ∷ [] → AsksAlike body u old.kernel → ⊥
@@ -164,12 +165,12 @@ module _ (o : Opened) (count : ℕ) (old : Driven) (s : Session) (last : Last o 
   module _ (k : Known) (later : Known) (all : Session) (ts : List Said) (leads : Lead k s ts later all) where
     -- The request that is held is held still, and the session asks nothing that uses the file.
     still_last : (log : List Transfer) (new : Driven) → held new.turn ≡ held old.turn
-        → opened s (open_file o) ≤ opened all (open_file o) → AllSent (FrameAsks (UsesNot o)) log → AreSaid log ts
+        → opened s (open_file o) ≤ opened all (open_file o) → AllSent (FrameAsks (UsesNot (open_file o))) log → AreSaid log ts
         → HaveAgreed Carries k s ts later all leads → Last o new all
     still_last log new turn grows such is agreed some once =
         let same : releases_of o (held new.turn) ≡ releases_of o (held old.turn) = ap (releases_of o) turn in
         let balance = files.balance in
-        waits_grow (UsesNot o) log such ts is k s later all leads agreed
+        waits_grow (UsesNot (open_file o)) log such ts is k s later all leads agreed
         (last (omega (arith, some, same)) (omega (arith, some, same, balance, grows, once)))
 
     -- Nothing is held.
@@ -185,31 +186,31 @@ module _ (o : Opened) (count : ℕ) (old : Driven) (s : Session) (last : Last o 
     pub step_last : (log : List Transfer) (new : Driven) → DriveStep old log new → AreSaid log ts
         → HaveAgreed Carries k s ts later all leads → Last o new all
     step_last log new (alone l acts) is agreed =
-        let same = none_grows o k s ts is later all leads in
+        let same = none_grows (open_file o) k s ts is later all leads in
         still_last log new refl (omega (arith, same)) tt is agreed
     step_last log new (reads idles pick may request picked_one) is agreed = λ some once.
-        let same = none_grows o k s ts is later all leads in
-        waits_grow (UsesNot o) log tt ts is k s later all leads agreed
+        let same = none_grows (open_file o) k s ts is later all leads in
+        waits_grow (UsesNot (open_file o)) log tt ts is k s later all leads agreed
         (picked_last pick request picked_one (picked_alive old.kernel pick may) some (sym same ∙ once))
     step_last log new (sends request turn unlisted frame goes log' went) is agreed = none_last new refl
     step_last log new (sends_opened request fh turn frame goes handle log' went) is agreed = none_last new refl
     step_last log new (opens request turn asks_it below node lists frame frame_is log' went) is agreed = λ some once.
         let none = lists_release o request.body node lists in absurd (omega (arith, some, none))
     step_last log new (is_given request unique node turn frame fh gives) is agreed =
-        still_last log new (sym (ap held turn)) (received_grows o k s frame ts is later all leads) tt is agreed
+        still_last log new (sym (ap held turn)) (received_grows (open_file o) k s frame ts is later all leads) tt is agreed
     step_last log new (is_not_known request unique node turn frame gives) is agreed =
-        still_last log new (sym (ap held turn)) (received_grows o k s frame ts is later all leads) tt is agreed
+        still_last log new (sym (ap held turn)) (received_grows (open_file o) k s frame ts is later all leads) tt is agreed
     step_last log new (is_refused request unique node turn frame error other gives) is agreed =
-        still_last log new (sym (ap held turn)) (received_grows o k s frame ts is later all leads) tt is agreed
+        still_last log new (sym (ap held turn)) (received_grows (open_file o) k s frame ts is later all leads) tt is agreed
     step_last log new (is_garbled request unique node turn frame head under gives) is agreed =
-        still_last log new (sym (ap held turn)) (received_grows o k s frame ts is later all leads) tt is agreed
+        still_last log new (sym (ap held turn)) (received_grows (open_file o) k s frame ts is later all leads) tt is agreed
     step_last log new (answers request error turn bytes reply result l took) is agreed = none_last new refl
     step_last log new (waits frame own_one) is agreed =
-        still_last log new refl (received_grows o k s frame ts is later all leads) tt is agreed
+        still_last log new refl (received_grows (open_file o) k s frame ts is later all leads) tt is agreed
     step_last log new (sets_aside frame other) is agreed =
-        still_last log new refl (received_grows o k s frame ts is later all leads) tt is agreed
+        still_last log new refl (received_grows (open_file o) k s frame ts is later all leads) tt is agreed
     step_last log new (writes idles frame rest there handed on result l took log' coming left turn behind_it) is agreed =
         none_last new (behind_none frame log' coming left turn behind_it)
     step_last log new (is_released unique turn frame head same) is agreed = none_last new refl
     step_last log new (ends end) is agreed =
-        still_last log new refl (stopped_grows o k s end ts is later all leads) tt is agreed
+        still_last log new refl (stopped_grows (open_file o) k s end ts is later all leads) tt is agreed

@@ -2,6 +2,7 @@
 use Rattle.std.proofs.Common.{◌≡◌, ℕ, ◌+◌, ◌≤◌, ◌<◌, Bool, true, false, ◌&&◌, cond, not, List, [], ◌∷◌, ◌++◌, filter, nat_eq, append-nil, append_assoc, refl, ap, sym, subst, ◌∙◌, arith}
 use Rattle.std.specs.List.{list_all, list_any}
 use Rattle.std.specs.Prelude.{sum_by}
+use Rattle.std.proofs.lemmas.Bool.Decides.{nat_tests}
 use Rattle.std.proofs.lemmas.Bool.{and_parts, false≢true}
 use Rattle.std.proofs.lemmas.List.Sums.{sum_by-append, sum_by-cons}
 use Rattle.fuse_spec.specs.declared.Opened.{Opened}
@@ -9,16 +10,25 @@ use Rattle.fuse_sessions.specs.declared.act.Act.{Act}
 use Rattle.fuse_sessions.specs.declared.act.Act.TheVariants as act
 use Rattle.fuse_sessions.specs.declared.act.Asked.{Asked}
 use Rattle.fuse_sessions.specs.declared.act.OpenFile.{OpenFile}
+use Rattle.fuse_sessions.specs.declared.act.OpenKind.{OpenKind}
 use Rattle.fuse_sessions.specs.declared.act.OpenKind.TheVariants as kind
 use Rattle.fuse_sessions.specs.OpenFiles.{IsUsable, MayUse, has_none, opened, opens_this, releases_this}
 use Rattle.fuse_sessions.specs.Sessions.{Session, left}
-use Rattle.fuse_sessions.specs.Waiting.{asked_by, ends, is_used, uses_file, waiting}
+use Rattle.fuse_sessions.specs.Waiting.{asked_by, ends, is_used, same_kind, uses_file, waiting}
 use Rattle.fuse_sessions.proofs.Laws.{waiting-more}
 use Rattle.driven_sessions.proofs.Asks.{AllAsk, EachAsked, each_append, each_kept}
 
--- the open file of a session that an open file of the kernel is
+-- the open file of a session that an open file of this kind is
+abbrev pub as_file : OpenKind → Opened → OpenFile
+as_file which o = record { kind = which; nodeid = o.nodeid; fh = o.fh }
+
+-- that which an open file of the kernel is
 abbrev pub open_file : Opened → OpenFile
-open_file o = record { kind = kind.File; nodeid = o.nodeid; fh = o.fh }
+open_file o = as_file kind.File o
+
+pub kind_self : (which : OpenKind) → same_kind which which ≡ true
+kind_self kind.File = refl
+kind_self kind.Directory = refl
 
 -- whether an open file is this one, as a number
 abbrev pub is_file : Opened → Opened → ℕ
@@ -38,7 +48,7 @@ module _ (gives takes : Act → ℕ) where
   left_least [] = omega arith
   left_least (a ∷ acts) = omega arith
 
-  left_most : (acts : List Act) → left gives takes acts ≤ sum_by gives acts
+  pub left_most : (acts : List Act) → left gives takes acts ≤ sum_by gives acts
   left_most [] = omega arith
   left_most (a ∷ acts) =
       let sum = sum_by-cons gives a acts in
@@ -69,6 +79,22 @@ opened_on file s acts = left_on (opens_this file) (releases_this file) s acts
 
 pub opened_up : (file : OpenFile) (s acts : List Act) → opened (s ++ acts) file ≤ opened s file + opens_in file acts
 opened_up file s acts = left_up (opens_this file) (releases_this file) s acts
+
+-- A file of which one is opened is opened.
+pub file_most : (which : OpenKind) (o q : Opened) (acts : List Act) → 1 ≤ opens_in (as_file which q) acts → is_file o q ≤ opens_in (as_file which o) acts
+file_most which o q acts some = by (nat_eq q.nodeid o.nodeid) (nat_eq q.fh o.fh) refl refl
+  where
+    equal : (a b : ℕ) → nat_eq a b ≡ true → a ≡ b
+    equal a b e = grind (arith, nat_tests, e)
+
+    by : (a b : Bool) → nat_eq q.nodeid o.nodeid ≡ a → nat_eq q.fh o.fh ≡ b → cond (a && b) 1 0 ≤ opens_in (as_file which o) acts
+    by true true node fh =
+        let same_node = equal q.nodeid o.nodeid node in
+        let same_fh = equal q.fh o.fh fh in
+        let same : q ≡ o = λ i. record { nodeid = same_node i; fh = same_fh i } in
+        subst (λ (x : Opened). 1 ≤ opens_in (as_file which x) acts) same some
+    by true false node fh = omega arith
+    by false b node fh = omega arith
 
 -- A file that is open may be used.
 pub open_used : (s : Session) (file : OpenFile) → 0 < opened s file → MayUse s file

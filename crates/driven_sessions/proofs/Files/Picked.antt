@@ -106,7 +106,7 @@ module _ (k : Kernel) (one : OneEach k.queues) (above : Above k.queues) where
       let same : there.request ≡ x = cc (there.under, under) in
       let body : r.body ≡ b = some_body r.body b (sym there.asks
       ∙ ap (λ (q : QueuedRequest Purpose). body_of (record k { queues = after_pick k.queues (Pending place) }) q.kept) same ∙ asks) in
-      subst (λ (c : RequestBody). AskAlike c r.body) body (record { node = refl; files = refl })
+      subst (λ (c : RequestBody). AskAlike c r.body) body (record { nodes = refl; node = refl; files = refl })
     where
       some_body : (c d : RequestBody) → ◌≡◌ {A = Option RequestBody} (Some c) (Some d) → c ≡ d
       some_body c d e = ap of e

@@ -26,6 +26,7 @@ use Rattle.fk_drive_theorem.proofs.Taken.{TakenAs, holds_as_taken, is_read, refu
 use Rattle.fk_drive_theorem.proofs.WrittenCounted.{EmptyUnlessLive}
 use Rattle.protocol_law.specs.Law.{Carries}
 use Rattle.fuse_sessions.specs.declared.act.Asked.{Asked}
+use Rattle.fuse_sessions.specs.declared.act.OpenKind.TheVariants as kind
 use Rattle.fuse_sessions.specs.declared.act.Taken.{Taken}
 use Rattle.fuse_sessions.specs.declared.act.Taken.TheVariants as taken
 use Rattle.fuse_sessions.specs.declared.known.Known.{Known}
@@ -52,7 +53,8 @@ use Rattle.driven_sessions.proofs.Spent.{Keeps, Spent, held, none_held, of_kerne
 use Rattle.driven_sessions.proofs.Steps.{alone_dead, taken_dead}
 use Rattle.driven_sessions.proofs.Telling.{FrameAsks, IsOwnNumber, Tells, Tied, asks_grow, held_before, interrupt_asks, own_asks}
 use Rattle.driven_sessions.proofs.Unagreed.{judged_acts}
-use Rattle.driven_sessions.proofs.Files.FrameActs.{AsksFor, frame_acts}
+use Rattle.driven_sessions.proofs.Files.FrameActs.{AsksFor, file_acts}
+use Rattle.driven_sessions.proofs.Files.Rows.{files_of}
 use Rattle.driven_sessions.proofs.Files.Frames.{no_files, own_files, request_files}
 use Rattle.driven_sessions.proofs.Files.Opened.{each_map, open_file}
 use Rattle.driven_sessions.proofs.Files.Picked.{pending_under}
@@ -165,19 +167,19 @@ pub record Present (d : Driven) (s : Session) : Type 0 where
 -- ---- frames that are sent
 
 -- What a frame asks, it asks under its number.
-request_numbers : (frame : List ℕ) (r : Request) → IsSentFrame frame r → FrameAsks (λ u a. u ≡ r.unique) frame
-request_numbers frame r goes k acts carries does = map_ask (λ u a. (u ≡ unique_in frame) × AsksFor r.body a) (λ u a. u ≡ r.unique)
+pub request_numbers : (frame : List ℕ) (r : Request) → IsSentFrame frame r → FrameAsks (λ u a. u ≡ r.unique) frame
+request_numbers frame r goes k acts carries does = map_ask (λ u a. (u ≡ unique_in frame) × AsksFor kind.File (files_of r.body) a) (λ u a. u ≡ r.unique)
     (λ u a is. is.0 ∙ frame_number frame r goes) acts
-    (frame_acts r.body k frame (request_files frame r goes) (said_shaped frame r goes.says) carries acts does).asks
+    (file_acts r.body k frame (request_files frame r goes) (said_shaped frame r goes.says) carries acts does).asks
 
-map_frame : (P Q : ℕ → Asked → Type 0) → ((u : ℕ) (a : Asked) → P u a → Q u a) → (frame : List ℕ) → FrameAsks P frame
+pub map_frame : (P Q : ℕ → Asked → Type 0) → ((u : ℕ) (a : Asked) → P u a → Q u a) → (frame : List ℕ) → FrameAsks P frame
     → FrameAsks Q frame
 map_frame P Q to frame asks k acts carries does = map_ask P Q to acts (asks k acts carries does)
 
 own_uses : (frame : List ℕ) (unique : ℕ) → unique < 2 ^ 63 → IsOwn frame unique → FrameAsks UsesNone frame
-own_uses frame unique low mine k acts carries does = map_ask (λ u a. (u ≡ unique_in frame) × AsksFor no_files a) UsesNone
+own_uses frame unique low mine k acts carries does = map_ask (λ u a. (u ≡ unique_in frame) × AsksFor kind.File (files_of no_files) a) UsesNone
     (λ u a is high p. by a p (uses_file (open_file p) a) refl (is.1.uses p)) acts
-    (frame_acts no_files k frame (own_files frame unique low mine) (own_shaped frame unique low mine) carries acts does).asks
+    (file_acts no_files k frame (own_files frame unique low mine) (own_shaped frame unique low mine) carries acts does).asks
   where
     by : (a : Asked) (p : Opened) (b : Bool) → uses_file (open_file p) a ≡ b
         → (uses_file (open_file p) a ≡ true → ◌≡◌ {A = List Opened} [] (p ∷ [])) → b ≡ false

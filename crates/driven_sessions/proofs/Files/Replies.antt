@@ -35,6 +35,7 @@ use Rattle.fuse_sessions.specs.declared.act.Act.{Act}
 use Rattle.fuse_sessions.specs.declared.act.Act.TheVariants as act
 use Rattle.fuse_sessions.specs.declared.act.Asked.{Asked}
 use Rattle.fuse_sessions.specs.declared.act.OpenFile.{OpenFile}
+use Rattle.fuse_sessions.specs.declared.act.OpenKind.{OpenKind}
 use Rattle.fuse_sessions.specs.declared.act.OpenKind.TheVariants as kind
 use Rattle.fuse_sessions.specs.declared.act.Taken.TheVariants as taken
 use Rattle.fuse_sessions.specs.declared.fault.Fault.TheVariants as fault
@@ -42,10 +43,11 @@ use Rattle.fuse_sessions.specs.declared.known.Known.{Known}
 use Rattle.fuse_sessions.specs.Fits.{fit_in}
 use Rattle.fuse_sessions.specs.Frames.{IsReplyOf, init_acts, replied, said_acts}
 use Rattle.fuse_sessions.specs.OpenFiles.{opens_this}
+use Rattle.fuse_sessions.specs.Waiting.{same_kind}
 use Rattle.fuse_sessions.specs.ReplyActs.{answer_acts, entry_acts, file_of, gift_acts, is_counted, is_opened, kind_acts, may_be_missing, opening, root_acts}
 use Rattle.driven_sessions.proofs.Gives.{IsEntered, IsNaming, entered_names, same_answer, same_reply}
 use Rattle.driven_sessions.specs.Files.{AreCertain, is_certain}
-use Rattle.driven_sessions.proofs.Files.Opened.{open_file, opens_in}
+use Rattle.driven_sessions.proofs.Files.Opened.{as_file, kind_self, open_file, opens_in}
 
 -- ---- what a reply opens
 
@@ -73,49 +75,51 @@ all_first test (a ∷ xs) ys are =
     let both = and_parts (test a) (list_all test (xs ++ ys)) are in
     ap (λ (b : Bool). b && list_all test xs) both.0 ∙ all_first test xs ys both.1
 
-opens_last : (file : OpenFile) (xs ys : List Act) → opens_in file ys ≤ opens_in file (xs ++ ys)
+pub opens_last : (file : OpenFile) (xs ys : List Act) → opens_in file ys ≤ opens_in file (xs ++ ys)
 opens_last file xs ys = let sum = sum_by-append (opens_this file) xs ys in omega (arith, sum)
 
 -- An open file of these numbers is opened once.
-one_opened : (p : Opened) (node fh : ℕ) → node ≡ p.nodeid → fh ≡ p.fh
-    → opens_in (open_file p) (act.Opens (record { kind = kind.File; nodeid = node; fh = fh }) ∷ []) ≡ 1
-one_opened p node fh same handle =
-    let sum = sum_by-cons (opens_this (open_file p)) (act.Opens (record { kind = kind.File; nodeid = node; fh = fh })) [] in
-    let one : cond {A = ℕ} (nat_eq node p.nodeid && nat_eq fh p.fh) 1 0 ≡ 1 =
-    ap (λ (n : ℕ). cond {A = ℕ} (nat_eq n p.nodeid && nat_eq fh p.fh) 1 0) same
+pub one_opened : (which : OpenKind) (p : Opened) (node fh : ℕ) → node ≡ p.nodeid → fh ≡ p.fh
+    → opens_in (as_file which p) (act.Opens (record { kind = which; nodeid = node; fh = fh }) ∷ []) ≡ 1
+one_opened which p node fh same handle =
+    let sum = sum_by-cons (opens_this (as_file which p)) (act.Opens (record { kind = which; nodeid = node; fh = fh })) [] in
+    let one : cond {A = ℕ} (same_kind which which && (nat_eq node p.nodeid && nat_eq fh p.fh)) 1 0 ≡ 1 =
+    ap (λ (b : Bool). cond {A = ℕ} (b && (nat_eq node p.nodeid && nat_eq fh p.fh)) 1 0) (kind_self which)
+    ∙ ap (λ (n : ℕ). cond {A = ℕ} (nat_eq n p.nodeid && nat_eq fh p.fh) 1 0) same
     ∙ ap (λ (n : ℕ). cond {A = ℕ} (nat_eq p.nodeid p.nodeid && nat_eq n p.fh) 1 0) handle
     ∙ ap (λ (b : Bool). cond {A = ℕ} (b && nat_eq p.fh p.fh) 1 0) (same_is p.nodeid)
     ∙ ap (λ (b : Bool). cond {A = ℕ} b 1 0) (same_is p.fh) in
     omega (arith, sum, one)
 
+-- What the reply says, the last acts are.
+pub answer_last : (k : Known) (bytes : List ℕ) (a : Asked) (acts : List Act) (later : Known) (o : Opcode)
+    → IsReplyOf k bytes taken.Accepted o a acts later → (r : ReplyMessage) (asked : ℕ) → IsReply k.agreed (row_at o).reply asked bytes r
+    → IsEntered r.answer → (front : List Act) × (acts ≡ front ++ answer_acts o a r.answer)
+answer_last k bytes a acts later o does r asked reads enters = by does
+  where
+    here : IsNaming (answer_at (row_at o).reply asked bytes)
+    here = subst IsNaming (sym reads.answer) (entered_names r.answer enters)
+
+    by : IsReplyOf k bytes taken.Accepted o a acts later → (front : List Act) × (acts ≡ front ++ answer_acts o a r.answer)
+    by (inl (m, is, (same, told))) =
+        let content : m.answer ≡ r.answer =
+        sym is.answer ∙ same_answer (row_at o).reply asked a.asked bytes here ∙ reads.answer in
+        let first : List Act = replied bytes taken.Accepted (fit_in (row_at o).reply a.asked bytes) in (
+          first ++ init_acts k.offered r.answer,
+          same ∙ ap (λ (c : AnswerContent). first ++ said_acts k o a taken.Accepted c) content
+              ∙ sym (append_assoc first (init_acts k.offered r.answer) (answer_acts o a r.answer)),
+        )
+    by (inr (none, same)) = absurd (none r (same_reply k.agreed (row_at o).reply asked a.asked bytes r reads enters))
+
 module _ (k : Known) (carries : Carries k.agreed) (bytes : List ℕ) (a : Asked) (acts : List Act) (later : Known)
     (certain : AreCertain acts) where
   module _ (o : Opcode) (does : IsReplyOf k bytes taken.Accepted o a acts later) where
-    -- What the reply says, the last acts are.
-    answer_last : (r : ReplyMessage) (asked : ℕ) → IsReply k.agreed (row_at o).reply asked bytes r → IsEntered r.answer
-        → (front : List Act) × (acts ≡ front ++ answer_acts o a r.answer)
-    answer_last r asked reads enters = by does
-      where
-        here : IsNaming (answer_at (row_at o).reply asked bytes)
-        here = subst IsNaming (sym reads.answer) (entered_names r.answer enters)
-
-        by : IsReplyOf k bytes taken.Accepted o a acts later → (front : List Act) × (acts ≡ front ++ answer_acts o a r.answer)
-        by (inl (m, is, (same, told))) =
-            let content : m.answer ≡ r.answer =
-            sym is.answer ∙ same_answer (row_at o).reply asked a.asked bytes here ∙ reads.answer in
-            let first : List Act = replied bytes taken.Accepted (fit_in (row_at o).reply a.asked bytes) in (
-              first ++ init_acts k.offered r.answer,
-              same ∙ ap (λ (c : AnswerContent). first ++ said_acts k o a taken.Accepted c) content
-                  ∙ sym (append_assoc first (init_acts k.offered r.answer) (answer_acts o a r.answer)),
-            )
-        by (inr (none, same)) = absurd (none r (same_reply k.agreed (row_at o).reply asked a.asked bytes r reads enters))
-
     -- So it opens what they open.
     last_opens : (file : OpenFile) (r : ReplyMessage) (content : AnswerContent) → r.answer ≡ content → IsEntered content
         → IsReply k.agreed (row_at o).reply (length bytes) bytes r
         → (AreCertain (answer_acts o a content) → 1 ≤ opens_in file (answer_acts o a content)) → 1 ≤ opens_in file acts
     last_opens file r content is enters reads some =
-        let last = answer_last r (length bytes) reads (subst IsEntered (sym is) enters) in
+        let last = answer_last k bytes a acts later o does r (length bytes) reads (subst IsEntered (sym is) enters) in
         let all : acts ≡ last.0 ++ answer_acts o a content =
         last.1 ∙ ap (λ (c : AnswerContent). last.0 ++ answer_acts o a c) is in
         let one = some (all_last is_certain last.0 (answer_acts o a content) (sym (ap (list_all is_certain) all) ∙ certain)) in
@@ -137,7 +141,7 @@ module _ (k : Known) (carries : Carries k.agreed) (bytes : List ℕ) (a : Asked)
           → r.answer ≡ said → 1 ≤ opens_in (open_file p) acts
       by (pos n) (open_reply fh) (answer.opened file) wire same r reads is =
           last_opens op.Open does (open_file p) r (answer.opened file) is tt reads (λ sure.
-          let one = one_opened p a.nodeid file.handle node (same ∙ ap opened_fh wire) in omega (arith, one))
+          let one = one_opened kind.File p a.nodeid file.handle node (same ∙ ap opened_fh wire) in omega (arith, one))
       by (pos n) (open_reply fh) said wire same r reads is = absurd same
       by (pos n) (entry_reply (missing s ns)) said wire same r reads is = absurd (cc wire)
       by (pos n) (entry_reply (found id generation s ns at)) said wire same r reads is = absurd (cc wire)
@@ -211,7 +215,7 @@ module _ (k : Known) (carries : Carries k.agreed) (bytes : List ℕ) (a : Asked)
               let none : nat_eq x.nodeid 0 ≡ false = grind (arith, nat_tests, node, low) in
               let is : (if is_opened a x then opening op.Create x.nodeid n else []) ≡ opening op.Create x.nodeid n =
               ap (λ (b : Bool). if b then opening op.Create x.nodeid n else []) (surely_opened x root none sure) in
-              let one = one_opened (record { nodeid = g.nodeid; fh = fh }) x.nodeid n node handle in
+              let one = one_opened kind.File (record { nodeid = g.nodeid; fh = fh }) x.nodeid n node handle in
               let more = opens_last (open_file (record { nodeid = g.nodeid; fh = fh })) (entry_acts true op.Create a x)
               (if is_opened a x then opening op.Create x.nodeid n else []) in
               let same = ap (opens_in (open_file (record { nodeid = g.nodeid; fh = fh }))) is in

@@ -1,10 +1,17 @@
 -- What waits in a session under a number of the kernel's asks of open files what the kernel's request there asks.
-use Rattle.std.proofs.Common.{◌≡◌, inl, inr, ℕ, ◌+◌, ◌≤◌, ◌<◌, ◌^◌, Bool, true, false, List, Some, nat_eq, refl, ap, sym, subst, ◌∙◌, arith}
+use Rattle.std.proofs.Common.{◌≡◌, ◌⊎◌, ◌&&◌, inl, inr, ℕ, ◌+◌, ◌≤◌, ◌<◌, ◌^◌, Bool, true, false, All, List, [], ◌∷◌, Some, nat_eq, nat_le, refl, ap, sym, subst, ◌∙◌, arith}
 use Rattle.std.proofs.lemmas.Bool.Decides.{nat_tests}
+use Rattle.std.proofs.lemmas.List.Elements.{All-cons, All-nil}
 use Rattle.fuse_device.specs.Transfers.{Transfer}
 use Rattle.fuse_spec.specs.declared.Opened.{Opened}
 use Rattle.fuse_spec.specs.Kernel.Kernel.{Kernel}
 use Rattle.fuse_spec.specs.Kernel.Messages.{Request, RequestBody}
+use Rattle.fuse_spec.specs.Server.Server.{nodes_of_body}
+use Rattle.fuse_protocol.specs.declared.opcode.Opcode.{Opcode}
+use Rattle.fuse_protocol.specs.declared.opcode.Opcode.TheVariants as op
+use Rattle.fuse_protocol.specs.Pairs.{pairs_of_row}
+use Rattle.fuse_protocol.specs.Requests.{RequestMessage}
+use Rattle.fuse_protocol.specs.Table.{row_at}
 use Rattle.fk_drive.specs.Driving.{Driven, DriveStep, IsSentFrame, ReleasesBehind, SendsFrame, Turn, alone, at_end, opens, reads, releases, releases_none, sends, sends_opened, with_result, writes}
 use Rattle.fk_drive.specs.KernelSteps.{mounts}
 use Rattle.fk_drive_theorem.specs.TakenOnce.{mounts_at}
@@ -12,27 +19,41 @@ use Rattle.fk_drive_theorem.proofs.OneEach.{OneEach}
 use Rattle.fk_drive_theorem.proofs.WrittenCounted.{EmptyUnlessLive}
 use Rattle.protocol_law.specs.Law.{Carries}
 use Rattle.fuse_sessions.specs.declared.act.Asked.{Asked}
+use Rattle.fuse_sessions.specs.declared.act.OpenKind.TheVariants as kind
 use Rattle.fuse_sessions.specs.declared.known.Known.{Known}
 use Rattle.fuse_sessions.specs.declared.transfer.Transfer.{Transfer as Said}
-use Rattle.fuse_sessions.specs.Frames.{Lead}
+use Rattle.fuse_sessions.specs.Frames.{IsRequestOf, Lead}
+use Rattle.fuse_sessions.specs.RequestActs.{request_acts}
+use Rattle.fuse_sessions.specs.Waiting.{names_node}
 use Rattle.fuse_sessions.specs.Sessions.{Session}
 use Rattle.fuse_sessions.specs.UnreadRequests.{opcode_in, unique_in}
 use Rattle.driven_sessions.specs.Driven.{HaveAgreed}
 use Rattle.driven_sessions.specs.Transfers.{AllSent, AreSaid}
-use Rattle.driven_sessions.proofs.Asks.{AllAsk, map_ask}
+use Rattle.driven_sessions.proofs.Asks.{AllAsk, doing_ask, map_ask, pairs_ask, zip_ask}
 use Rattle.driven_sessions.proofs.Frames.{frame_interrupt, is_interrupt}
+use Rattle.driven_sessions.proofs.Naming.{SaysNodes, names_such, request_nodes}
 use Rattle.driven_sessions.proofs.Reading.{picked_alive}
 use Rattle.driven_sessions.proofs.Shapes.{said_shaped}
 use Rattle.driven_sessions.proofs.Spent.{Keeps, held, none_held, some_request}
 use Rattle.driven_sessions.proofs.Telling.{FrameAsks, IsOwnNumber, Tells, asks_grow, held_before, interrupt_asks, own_asks}
 use Rattle.driven_sessions.proofs.Files.Bodies.{AsksAlike, KnowsFiles, step_files}
-use Rattle.driven_sessions.proofs.Files.FrameActs.{AsksFor, frame_acts}
+use Rattle.driven_sessions.proofs.Files.FrameActs.{AsksFor, file_acts}
+use Rattle.driven_sessions.proofs.Files.Rows.{files_of}
 use Rattle.driven_sessions.proofs.Files.Frames.{request_files}
 use Rattle.driven_sessions.proofs.Files.Picked.{picked_alike}
 
+abbrev pub IsIn : ℕ → List ℕ → Type 0
+IsIn node [] = ⊥
+IsIn node (x ∷ xs) = (x ≡ node) ⊎ IsIn node xs
+
+-- It asks of open files what this body asks, and names its nodes.
+pub record AsksSame (body : RequestBody) (a : Asked) : Type 0 where
+  pub files : AsksFor kind.File (files_of body) a
+  pub names : (node : ℕ) → 1 ≤ node → names_node node a ≡ true → IsIn node (nodes_of_body body)
+
 -- A request that was sent under a number of the kernel's: the kernel's there asks the same of open files.
 abbrev pub TiedFiles : Kernel → ℕ → Asked → Type 0
-TiedFiles k u a = u < 2 ^ 62 → (body : RequestBody) × AsksFor body a × KnowsFiles body u k
+TiedFiles k u a = u < 2 ^ 62 → (body : RequestBody) × AsksSame body a × KnowsFiles body u k
 
 pub record Ties (d : Driven) (s : Session) : Type 0 where
   pub asks : AllAsk (TiedFiles d.kernel) s
@@ -50,18 +71,51 @@ frame_of_interrupt frame r goes is = by (frame_interrupt frame r goes.says ∙ i
     by : nat_eq (opcode_in frame) 36 ≡ true → opcode_in frame ≡ 36
     by e = grind (arith, nat_tests, e)
 
+all_in : (P : ℕ → Type 0) (xs : List ℕ) → ((n : ℕ) → IsIn n xs → P n) → All P xs
+all_in P [] is = All-nil P
+all_in P (x ∷ xs) is = All-cons P x xs (is x (inl refl)) (all_in P xs (λ n there. is n (inr there)))
+
+-- What a request's frame asks names the nodes of its body.
+names_asked : (frame : List ℕ) (r : Request) → IsSentFrame frame r
+    → FrameAsks (λ u a. (node : ℕ) → 1 ≤ node → names_node node a ≡ true → IsIn node (nodes_of_body r.body)) frame
+names_asked frame r goes k acts carries (inl ((o, m), is, does)) =
+    subst (AllAsk (λ u a. (node : ℕ) → 1 ≤ node → names_node node a ≡ true → IsIn node (nodes_of_body r.body))) (sym does) (row o m is)
+  where
+    says : SaysNodes (λ n. IsIn n (nodes_of_body r.body)) frame
+    says = request_nodes (λ n. IsIn n (nodes_of_body r.body)) frame r goes.says
+        (all_in (λ n. IsIn n (nodes_of_body r.body)) (nodes_of_body r.body) (λ n there. there))
+
+    row : (o : Opcode) (m : RequestMessage) → IsRequestOf k.agreed frame (o, m)
+        → AllAsk (λ u a. (node : ℕ) → 1 ≤ node → names_node node a ≡ true → IsIn node (nodes_of_body r.body))
+        (request_acts k.has_resent o m)
+    row op.Interrupt m is = tt
+    row op.NotifyReply m is = tt
+    row op.Forget m is = tt
+    row op.BatchForget m is =
+        pairs_ask (λ u a. (node : ℕ) → 1 ≤ node → names_node node a ≡ true → IsIn node (nodes_of_body r.body))
+        (pairs_of_row (row_at op.BatchForget).tail m.tail)
+    row o m is = doing_ask (λ u a. (node : ℕ) → 1 ≤ node → names_node node a ≡ true → IsIn node (nodes_of_body r.body))
+        (k.has_resent && nat_le (2 ^ 63) m.unique) o m
+        (names_such (λ n. IsIn n (nodes_of_body r.body)) k frame says o m is refl)
+names_asked frame r goes k acts carries (inr (none, does)) =
+    let one = said_shaped frame r goes.says k.agreed carries in absurd (none (one.0, one.1) one.2)
+
 request_tied : (kernel : Kernel) (frame : List ℕ) (r : Request) (goes : IsSentFrame frame r)
     → (is_interrupt r.body ≡ false → KnowsFiles r.body r.unique kernel) → FrameAsks (TiedFiles kernel) frame
 request_tied kernel frame r goes holds = by (is_interrupt r.body) refl
   where
     by : (b : Bool) → is_interrupt r.body ≡ b → FrameAsks (TiedFiles kernel) frame
     by true is = interrupt_asks (TiedFiles kernel) frame (said_shaped frame r goes.says) (frame_of_interrupt frame r goes is)
-    by false other = λ k acts carries does. map_ask (λ u a. (u ≡ unique_in frame) × AsksFor r.body a) (TiedFiles kernel)
+    by false other = λ k acts carries does. map_ask (λ u a. ((u ≡ unique_in frame) × AsksFor kind.File (files_of r.body) a)
+        × ((node : ℕ) → 1 ≤ node → names_node node a ≡ true → IsIn node (nodes_of_body r.body))) (TiedFiles kernel)
         (λ u a is low. (
           r.body,
-          is.1,
-          subst (λ (n : ℕ). KnowsFiles r.body n kernel) (sym (is.0 ∙ frame_number frame r goes)) (holds other),
-        )) acts (frame_acts r.body k frame (request_files frame r goes) (said_shaped frame r goes.says) carries acts does).asks
+          record { files = is.0.1; names = is.1 },
+          subst (λ (n : ℕ). KnowsFiles r.body n kernel) (sym (is.0.0 ∙ frame_number frame r goes)) (holds other),
+        )) acts (zip_ask (λ u a. (u ≡ unique_in frame) × AsksFor kind.File (files_of r.body) a)
+        (λ u a. (node : ℕ) → 1 ≤ node → names_node node a ≡ true → IsIn node (nodes_of_body r.body)) acts
+        (file_acts r.body k frame (request_files frame r goes) (said_shaped frame r goes.says) carries acts does).asks
+        (names_asked frame r goes k acts carries does))
 
 own_tied : (k : Kernel) (u : ℕ) (a : Asked) → IsOwnNumber u a → TiedFiles k u a
 own_tied k u a high low = absurd (omega (arith, high, low))

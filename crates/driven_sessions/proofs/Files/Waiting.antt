@@ -22,6 +22,7 @@ use Rattle.protocol_law.specs.Law.{Carries}
 use Rattle.fuse_sessions.specs.declared.act.Act.{Act}
 use Rattle.fuse_sessions.specs.declared.act.Act.TheVariants as act
 use Rattle.fuse_sessions.specs.declared.act.Asked.{Asked}
+use Rattle.fuse_sessions.specs.declared.act.OpenKind.TheVariants as kind
 use Rattle.fuse_sessions.specs.declared.act.Fit.{Fit}
 use Rattle.fuse_sessions.specs.declared.act.Fit.TheVariants as fit
 use Rattle.fuse_sessions.specs.declared.act.Taken.TheVariants as taken
@@ -51,7 +52,8 @@ use Rattle.driven_sessions.proofs.Served.{is_of_server, reply_waits}
 use Rattle.driven_sessions.proofs.Shapes.{said_shaped}
 use Rattle.driven_sessions.proofs.Spent.{held}
 use Rattle.driven_sessions.proofs.Telling.{FrameAsks}
-use Rattle.driven_sessions.proofs.Files.FrameActs.{AsksFor, frame_acts}
+use Rattle.driven_sessions.proofs.Files.FrameActs.{AsksFor, file_acts}
+use Rattle.driven_sessions.proofs.Files.Rows.{files_of}
 use Rattle.driven_sessions.proofs.Files.Frames.{SaysFiles}
 use Rattle.driven_sessions.proofs.Files.Opened.{each_on}
 
@@ -171,7 +173,7 @@ none_asked P frame r goes none k acts carries (inr (unread, does)) =
 any_first : (test : Act → Bool) (xs ys : List Act) → list_any test xs ≡ true → list_any test (xs ++ ys) ≡ true
 any_first test xs ys is = list_any-append test xs ys ∙ ap (λ (b : Bool). b || list_any test ys) is
 
-any_last : (test : Act → Bool) (xs ys : List Act) → list_any test ys ≡ true → list_any test (xs ++ ys) ≡ true
+pub any_last : (test : Act → Bool) (xs ys : List Act) → list_any test ys ≡ true → list_any test (xs ++ ys) ≡ true
 any_last test xs ys is = list_any-append test xs ys ∙ ap (λ (b : Bool). list_any test xs || b) is ∙ or_true (list_any test xs)
   where
     or_true : (b : Bool) → (b || true) ≡ true
@@ -196,9 +198,9 @@ frame_reads : (body : RequestBody) (k : Known) (frame : List ℕ) → SaysFiles 
 frame_reads body k frame says shaped carries acts (inl ((o, m), is, does)) = subst AreRead (sym does) (by o is number)
   where
     number : AllAsk (λ u a. u ≡ m.unique) (request_acts k.has_resent o m)
-    number = map_ask (λ u a. (u ≡ unique_in frame) × AsksFor body a) (λ u a. u ≡ m.unique) (λ u a is_it. is_it.0 ∙ is.unique)
+    number = map_ask (λ u a. (u ≡ unique_in frame) × AsksFor kind.File (files_of body) a) (λ u a. u ≡ m.unique) (λ u a is_it. is_it.0 ∙ is.unique)
         (request_acts k.has_resent o m)
-        (frame_acts body k frame says shaped carries (request_acts k.has_resent o m) (inl ((o, m), is, refl))).asks
+        (file_acts body k frame says shaped carries (request_acts k.has_resent o m) (inl ((o, m), is, refl))).asks
 
     asking_row : (p : Opcode) → AllAsk (λ u a. u ≡ m.unique)
         (act.Arrives ∷ act.Begins p ∷ (if k.has_resent && nat_le resend_bit m.unique then resent p m else asking p m (asked_of p m)))
