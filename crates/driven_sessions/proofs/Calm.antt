@@ -92,6 +92,18 @@ is_plain a = is_written a
 abbrev pub ArePlain : List Act → Type 0
 ArePlain acts = list_all is_plain acts ≡ true
 
+-- What it writes besides that it gives nodes and opens files.
+abbrev pub is_bare : Act → Bool
+is_bare (act.Gives node file certain) = false
+is_bare a = is_plain a
+
+abbrev pub AreBare : List Act → Type 0
+AreBare acts = list_all is_bare acts ≡ true
+
+is_plain_where_bare : (a : Act) → is_bare a ≡ true → is_plain a ≡ true
+is_plain_where_bare (act.Gives node file certain) is = cc
+is_plain_where_bare a is = is
+
 is_written_where_plain : (a : Act) → is_plain a ≡ true → is_written a ≡ true
 is_written_where_plain (act.Opens file) is = cc
 is_written_where_plain a is = is
@@ -276,16 +288,19 @@ pub by_bool : (b : Bool) (Goal P Q : Type 0) → (b ≡ true → P → Goal) →
 by_bool true Goal P Q first second is = first refl is
 by_bool false Goal P Q first second is = second refl is
 
-kind_plain : (a : Asked) (e : Entry) → ArePlain (kind_acts a e)
-kind_plain a e = either is_plain (is_kind (kind_of e.attributes)) _ _
-    (either is_plain (is_made a e) [] (act.Faulty fault.EntryOfAnotherKind ∷ []) refl refl) refl
+pub bare_plain : (acts : List Act) → AreBare acts → ArePlain acts
+bare_plain = pass_on is_bare is_plain is_plain_where_bare
+
+pub kind_bare : (a : Asked) (e : Entry) → AreBare (kind_acts a e)
+kind_bare a e = either is_bare (is_kind (kind_of e.attributes)) _ _
+    (either is_bare (is_made a e) [] (act.Faulty fault.EntryOfAnotherKind ∷ []) refl refl) refl
 
 entry_plain : (certain : Bool) (o : Opcode) (a : Asked) (e : Entry) → ArePlain (entry_acts certain o a e)
 entry_plain certain o a e = either is_plain (nat_eq e.nodeid 1) (root_acts a) _
     (either is_plain a.is_dots [] (act.Faulty fault.EntryOfTheRoot ∷ []) refl refl)
     (either is_plain (nat_eq e.nodeid 0) _ _
     (either is_plain (may_be_missing o) [] (act.Faulty fault.EntryOfNoNode ∷ []) refl refl)
-    (each_of is_plain (kind_acts a e) _ (kind_plain a e) refl))
+    (each_of is_plain (kind_acts a e) _ (bare_plain (kind_acts a e) (kind_bare a e)) refl))
 
 records_plain : (certain : Bool) (a : Asked) (rs : List EntryRecordContent) → ArePlain (flat_map (record_acts certain a) rs)
 records_plain certain a [] = refl
@@ -294,23 +309,23 @@ records_plain certain a (r ∷ rs) = each_of is_plain (record_acts certain a r) 
     (entry_acts certain op.Readdirplus a r.entry) refl (entry_plain certain op.Readdirplus a r.entry))
     (records_plain certain a rs)
 
-counting_plain : (o : Opcode) (said most : ℕ) → ArePlain (counting o said most)
-counting_plain op.Write said most = either is_plain (nat_lt most said) (act.Faulty fault.MoreThanWasAsked ∷ []) [] refl refl
-counting_plain op.CopyFileRange said most =
-    either is_plain (nat_lt most said) (act.Faulty fault.MoreThanWasAsked ∷ []) [] refl refl
-counting_plain op.CopyFileRange64 said most =
-    either is_plain (nat_lt most said) (act.Faulty fault.MoreThanWasAsked ∷ []) [] refl refl
-counting_plain o said most = refl
+pub counting_bare : (o : Opcode) (said most : ℕ) → AreBare (counting o said most)
+counting_bare op.Write said most = either is_bare (nat_lt most said) (act.Faulty fault.MoreThanWasAsked ∷ []) [] refl refl
+counting_bare op.CopyFileRange said most =
+    either is_bare (nat_lt most said) (act.Faulty fault.MoreThanWasAsked ∷ []) [] refl refl
+counting_bare op.CopyFileRange64 said most =
+    either is_bare (nat_lt most said) (act.Faulty fault.MoreThanWasAsked ∷ []) [] refl refl
+counting_bare o said most = refl
 
-none_plain : (o : Opcode) → ArePlain (opening_none o)
-none_plain op.Open = refl
-none_plain op.Opendir = refl
-none_plain o = refl
+none_bare : (o : Opcode) → AreBare (opening_none o)
+none_bare op.Open = refl
+none_bare op.Opendir = refl
+none_bare o = refl
 
-pub failed_plain : (o : Opcode) (node errno : ℕ) → ArePlain (failed_acts o node errno)
-failed_plain o node errno = each_of is_plain (if nat_eq errno 38 then opening_none o else []) (missing_acts o node errno)
-    (either is_plain (nat_eq errno 38) (opening_none o) [] (none_plain o) refl)
-    (either is_plain (is_of_node o && is_missing errno) _ [] refl refl)
+pub failed_bare : (o : Opcode) (node errno : ℕ) → AreBare (failed_acts o node errno)
+failed_bare o node errno = each_of is_bare (if nat_eq errno 38 then opening_none o else []) (missing_acts o node errno)
+    (either is_bare (nat_eq errno 38) (opening_none o) [] (none_bare o) refl)
+    (either is_bare (is_of_node o && is_missing errno) _ [] refl refl)
 
 opening_calm : (o : Opcode) (node fh : ℕ) → AreWritten (opening o node fh)
 opening_calm op.Open node fh = refl
@@ -319,13 +334,28 @@ opening_calm op.Create node fh = refl
 opening_calm op.Tmpfile node fh = refl
 opening_calm o node fh = refl
 
-listing_plain : (asked : ℕ) (offsets : List ℕ) → ArePlain (listing_acts asked offsets)
-listing_plain asked offsets =
+pub listing_bare : (asked : ℕ) (offsets : List ℕ) → AreBare (listing_acts asked offsets)
+listing_bare asked offsets =
     let twice : List Act = act.Faulty fault.OffsetGivenTwice ∷ [] in
     let endless : List Act = act.Faulty fault.ListingWithoutEnd ∷ [] in
     let ends : Bool = is_offset asked (last_behind None offsets) in
-    each_of is_plain (if repeats_behind None offsets then twice else []) (if ends then endless else [])
-    (either is_plain (repeats_behind None offsets) twice [] refl refl) (either is_plain ends endless [] refl refl)
+    each_of is_bare (if repeats_behind None offsets then twice else []) (if ends then endless else [])
+    (either is_bare (repeats_behind None offsets) twice [] refl refl) (either is_bare ends endless [] refl refl)
+
+pub replied_bare : (bytes : List ℕ) (t : Taken) (body : Fit) → AreBare (replied bytes t body)
+replied_bare bytes taken.Accepted body = each_of is_bare (eintr_acts bytes taken.Accepted)
+    (act.Takes (number_in bytes) taken.Accepted body ∷ act.Replies (number_in bytes) taken.Accepted ∷ [])
+    (either is_bare (error_in bytes == eintr) (act.Interrupted (number_in bytes) ∷ []) [] refl refl) refl
+replied_bare bytes taken.NoEntry body = refl
+replied_bare bytes taken.Invalid body = refl
+replied_bare bytes taken.Failed body = refl
+
+pub init_bare : (o : Option InitRequest) (content : AnswerContent) → AreBare (init_acts o content)
+init_bare (Some r) (answer.init i) = each_of is_bare (of_version i) (of_offered r i)
+    (either is_bare (i.major == 7) [] (act.Faulty fault.InitOfAnotherVersion ∷ []) refl refl)
+    (either is_bare (bit_and i.flags r.flags == i.flags) [] (act.Faulty fault.FlagsThatWereNotOffered ∷ []) refl refl)
+init_bare (Some r) content = refl
+init_bare None content = refl
 
 -- Such acts, where those are that are plain, and what the opcode of a request opens.
 module _ (test : Act → Bool) (plain : (a : Act) → is_plain a ≡ true → test a ≡ true) where
@@ -335,49 +365,37 @@ module _ (test : Act → Bool) (plain : (a : Act) → is_plain a ≡ true → te
   pub such : (acts : List Act) → ArePlain acts → AreSuch acts
   such = pass_on is_plain test plain
 
+  pub bare_such : (acts : List Act) → AreBare acts → AreSuch acts
+  bare_such acts are = such acts (bare_plain acts are)
+
   abbrev pub OpensSuch : Opcode → Type 0
   OpensSuch o = (node fh : ℕ) → list_all test (opening o node fh) ≡ true
 
   answer_such : (o : Opcode) → OpensSuch o → (a : Asked) (content : AnswerContent) → AreSuch (answer_acts o a content)
-  answer_such o opens a (answer.failed errno) = such (failed_acts o a.nodeid errno) (failed_plain o a.nodeid errno)
+  answer_such o opens a (answer.failed errno) = bare_such (failed_acts o a.nodeid errno) (failed_bare o a.nodeid errno)
   answer_such o opens a (answer.entry e) = such (entry_acts true o a e) (entry_plain true o a e)
   answer_such o opens a (answer.attributes v) = such (act.Describes a.nodeid (kind_of v.attributes) v.attributes.ino ∷ []) refl
   answer_such o opens a (answer.opened file) = opens a.nodeid file.handle
   answer_such o opens a (answer.created e file) = each_of test (entry_acts true o a e) _
       (such (entry_acts true o a e) (entry_plain true o a e))
       (either test (is_opened a e) (opening o e.nodeid file.handle) [] (opens e.nodeid file.handle) refl)
-  answer_such o opens a (answer.number n) = such (counting o n a.writes) (counting_plain o n a.writes)
+  answer_such o opens a (answer.number n) = bare_such (counting o n a.writes) (counting_bare o n a.writes)
   answer_such o opens a (answer.records rs) =
-      such (listing_acts a.lists_from (map (λ r. r.off) rs)) (listing_plain a.lists_from (map (λ r. r.off) rs))
+      bare_such (listing_acts a.lists_from (map (λ r. r.off) rs)) (listing_bare a.lists_from (map (λ r. r.off) rs))
   answer_such o opens a (answer.entry_records rs) =
       such (flat_map (record_acts true a) rs ++ listing_acts a.lists_from (map (λ r. r.said.off) rs))
       (each_of is_plain (flat_map (record_acts true a) rs) _ (records_plain true a rs)
-      (listing_plain a.lists_from (map (λ r. r.said.off) rs)))
+      (bare_plain (listing_acts a.lists_from (map (λ r. r.said.off) rs)) (listing_bare a.lists_from (map (λ r. r.said.off) rs))))
   answer_such o opens a (answer.init i) = such (act.Agrees i.max_write ∷ []) refl
   answer_such o opens a other = refl
 
   module _ (k : Known) (bytes : List ℕ) (t : Taken) where
     pub replied_such : (t : Taken) (body : Fit) → AreSuch (replied bytes t body)
-    replied_such t body = such (replied bytes t body) (by t)
-      where
-        by : (t : Taken) → ArePlain (replied bytes t body)
-        by taken.Accepted = each_of is_plain (eintr_acts bytes taken.Accepted)
-            (act.Takes (number_in bytes) taken.Accepted body ∷ act.Replies (number_in bytes) taken.Accepted ∷ [])
-            (either is_plain (error_in bytes == eintr) (act.Interrupted (number_in bytes) ∷ []) [] refl refl) refl
-        by taken.NoEntry = refl
-        by taken.Invalid = refl
-        by taken.Failed = refl
-
-    pub init_plain : (o : Option InitRequest) (content : AnswerContent) → ArePlain (init_acts o content)
-    init_plain (Some r) (answer.init i) = each_of is_plain (of_version i) (of_offered r i)
-        (either is_plain (i.major == 7) [] (act.Faulty fault.InitOfAnotherVersion ∷ []) refl refl)
-        (either is_plain (bit_and i.flags r.flags == i.flags) [] (act.Faulty fault.FlagsThatWereNotOffered ∷ []) refl refl)
-    init_plain (Some r) content = refl
-    init_plain None content = refl
+    replied_such t body = bare_such (replied bytes t body) (replied_bare bytes t body)
 
     said_such : (o : Opcode) → OpensSuch o → (a : Asked) (t : Taken) (content : AnswerContent) → AreSuch (said_acts k o a t content)
     said_such o opens a taken.Accepted content = each_of test (init_acts k.offered content) (answer_acts o a content)
-        (such (init_acts k.offered content) (init_plain k.offered content)) (answer_such o opens a content)
+        (bare_such (init_acts k.offered content) (init_bare k.offered content)) (answer_such o opens a content)
     said_such o opens a taken.NoEntry content = refl
     said_such o opens a taken.Invalid content = refl
     said_such o opens a taken.Failed content = refl

@@ -21,7 +21,7 @@ use Rattle.fuse_sessions.specs.declared.known.Known.{Known}
 use Rattle.fuse_sessions.specs.Frames.{AreRequestActs, IsRequestOf}
 use Rattle.fuse_sessions.specs.RequestActs.{asked_of, asking, forgets_in, naming, number_of, releasing, request_acts, resent, using, writing}
 use Rattle.fuse_sessions.specs.UnreadRequests.{asking_unread, has_header, malformed, may_be_known, opcode_in, takes_no_reply, unique_in, unjudged}
-use Rattle.driven_sessions.proofs.Calm.{AreCalm, AreShown, each_of, either, is_calm, is_calm_where_shown, is_shown, shown_pass}
+use Rattle.driven_sessions.proofs.Calm.{AreCalm, each_of, either, is_calm, is_calm_where_shown, is_shown, pass_on}
 
 -- One request is read under the frame's number, or forgets, or one is interrupted, or nothing of these.
 pub data Does (agreed : Agreed) (bytes : List ℕ) (acts : List Act) : Type 0 where
@@ -44,41 +44,59 @@ pub data Does (agreed : Agreed) (bytes : List ℕ) (acts : List Act) : Type 0 wh
 
 -- ---- what a request does behind its reading
 
-naming_calm : (node : ℕ) → AreShown (naming node)
-naming_calm node = either is_shown (nat_eq node 0) [] _ refl refl
+-- It names a node, or uses or releases an open file.
+abbrev pub is_handling : Act → Bool
+is_handling (act.Names node) = true
+is_handling (act.Uses file) = true
+is_handling (act.Releases file) = true
+is_handling a = false
 
-using_calm : (file : Option OpenFile) → AreShown (using file)
-using_calm None = refl
-using_calm (Some file) = refl
+pub is_shown_where_handling : (a : Act) → is_handling a ≡ true → is_shown a ≡ true
+is_shown_where_handling (act.Names node) is = refl
+is_shown_where_handling (act.Uses file) is = refl
+is_shown_where_handling (act.Releases file) is = refl
+is_shown_where_handling a is = absurd (false≢true is)
 
-releasing_calm : (o : Opcode) (node : ℕ) (h : OpenHandle) → AreShown (releasing o node h)
-releasing_calm op.Release node (handle.File fh) = refl
-releasing_calm op.Releasedir node (handle.Directory fh) = refl
-releasing_calm op.Release node h = refl
-releasing_calm op.Releasedir node h = refl
-releasing_calm o node h = refl
+naming_handles : (node : ℕ) → list_all is_handling (naming node) ≡ true
+naming_handles node = either is_handling (nat_eq node 0) [] _ refl refl
+
+using_handles : (file : Option OpenFile) → list_all is_handling (using file) ≡ true
+using_handles None = refl
+using_handles (Some file) = refl
+
+releasing_handles : (o : Opcode) (node : ℕ) (h : OpenHandle) → list_all is_handling (releasing o node h) ≡ true
+releasing_handles op.Release node (handle.File fh) = refl
+releasing_handles op.Releasedir node (handle.Directory fh) = refl
+releasing_handles op.Release node h = refl
+releasing_handles op.Releasedir node h = refl
+releasing_handles o node h = refl
 
 abbrev pub behind : Opcode → RequestMessage → Asked → List Act
 behind o m asked = naming asked.nodeid ++ naming asked.other ++ using asked.uses ++ using asked.copies_to
     ++ releasing o m.nodeid m.handle ++ writing o m ++ act.Asks m.unique asked ∷ []
 
--- A test passes it that shown acts pass, what is written, and what asks.
-module _ (test : Act → Bool) (passes : (a : Act) → is_shown a ≡ true → test a ≡ true) (o : Opcode) (m : RequestMessage)
+-- A test passes it that those acts pass, what is written, and what asks.
+module _ (test : Act → Bool) (passes : (a : Act) → is_handling a ≡ true → test a ≡ true) (o : Opcode) (m : RequestMessage)
     (asked : Asked) where
-  pub behind_passes : list_all test (writing o m) ≡ true → test (act.Asks m.unique asked) ≡ true
+  pub behind_holds : list_all test (writing o m) ≡ true → test (act.Asks m.unique asked) ≡ true
       → list_all test (behind o m asked) ≡ true
-  behind_passes writes asks =
+  behind_holds writes asks =
       let first : List Act = naming asked.nodeid ++ naming asked.other in
       let second : List Act = first ++ using asked.uses in
       let third : List Act = second ++ using asked.copies_to in
       let fourth : List Act = third ++ releasing o m.nodeid m.handle in
       let fifth : List Act = fourth ++ writing o m in
-      let one = each_of is_shown (naming asked.nodeid) (naming asked.other) (naming_calm asked.nodeid) (naming_calm asked.other) in
-      let two = each_of is_shown first (using asked.uses) one (using_calm asked.uses) in
-      let three = each_of is_shown second (using asked.copies_to) two (using_calm asked.copies_to) in
-      let four = each_of is_shown third (releasing o m.nodeid m.handle) three (releasing_calm o m.nodeid m.handle) in
-      let five = each_of test fourth (writing o m) (shown_pass test passes fourth four) writes in
+      let one = each_of is_handling (naming asked.nodeid) (naming asked.other) (naming_handles asked.nodeid) (naming_handles asked.other) in
+      let two = each_of is_handling first (using asked.uses) one (using_handles asked.uses) in
+      let three = each_of is_handling second (using asked.copies_to) two (using_handles asked.copies_to) in
+      let four = each_of is_handling third (releasing o m.nodeid m.handle) three (releasing_handles o m.nodeid m.handle) in
+      let five = each_of test fourth (writing o m) (pass_on is_handling test passes fourth four) writes in
       each_of test fifth (act.Asks m.unique asked ∷ []) five (and_from (test (act.Asks m.unique asked)) true asks refl)
+
+-- So does a test that shown acts pass.
+pub behind_passes : (test : Act → Bool) → ((a : Act) → is_shown a ≡ true → test a ≡ true) → (o : Opcode) (m : RequestMessage) (asked : Asked)
+    → list_all test (writing o m) ≡ true → test (act.Asks m.unique asked) ≡ true → list_all test (behind o m asked) ≡ true
+behind_passes test passes = behind_holds test (λ a is. passes a (is_shown_where_handling a is))
 
 -- What is written is of WRITE.
 pub writing_passes : (test : Act → Bool) (m : RequestMessage) → list_all test (writing op.Write m) ≡ true → (o : Opcode)

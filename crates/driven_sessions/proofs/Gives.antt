@@ -61,7 +61,7 @@ gives_append id xs ys = sum_by-append (gives_most id) xs ys
 
 -- ---- an entry
 
-abbrev time_of : ℕ → ℕ → ℕ
+abbrev pub time_of : ℕ → ℕ → ℕ
 time_of id node = cond (nat_eq node id) 1 0
 
 module _ (id : ℕ) (low : 2 ≤ id) where
@@ -84,11 +84,11 @@ module _ (id : ℕ) (low : 2 ≤ id) where
 
   -- ---- a listing
 
-  lookups_in : Option KernelEntry → ℕ
+  unfoldable pub lookups_in : Option KernelEntry → ℕ
   lookups_in None = 0
   lookups_in (Some g) = time_of id g.nodeid
 
-  listed_count : (o : Option KernelEntry) (files : List KernelEntry)
+  pub listed_count : (o : Option KernelEntry) (files : List KernelEntry)
       → count_by (λ (g : KernelEntry). nat_eq g.nodeid id) (first_listed o files)
       ≡ lookups_in o + count_by (λ (g : KernelEntry). nat_eq g.nodeid id) files
   unfolding lookups_in
@@ -184,7 +184,7 @@ reads_drop n (raw data' ∷ fs) place bytes le h = (
 )
 
 -- A listing is the same read behind the header alone.
-listed_behind : (ps : List DirentPlusContent) (bytes : List ℕ) → HaveEntries ps → 16 ≤ length bytes
+pub listed_behind : (ps : List DirentPlusContent) (bytes : List ℕ) → HaveEntries ps → 16 ≤ length bytes
     → ReadsAs 16 (direntpluses ps) bytes → map dirent_plus_said (entry_records_from 0 (drop 16 bytes)) ≡ ps
 listed_behind ps bytes good long reads =
     let one = one_plus_list ps 0 (drop 16 bytes) good (reads_drop 16 (direntpluses ps) 0 bytes long reads) in

@@ -35,6 +35,7 @@ mod InitReplies
 mod Outcomes
 mod BeforeInit
 mod Gives
+mod GivesOnly
 mod Takes
 mod Asking
 mod Replying
@@ -55,5 +56,7 @@ mod Directories
 mod Uncounted
 mod Served
 mod Files
+mod CountingOnly
+mod CountedOnly
 pub mod Mounts
 pub mod Rules

@@ -11,6 +11,7 @@ use Rattle.driven_sessions.specs.Files.{KeepsDirectoriesOpen}
 use Rattle.driven_sessions.specs.Rules.{KeepsRules, KeepsRulesIn}
 use Rattle.driven_sessions.proofs.BeforeInit.{early_requests_never}
 use Rattle.driven_sessions.proofs.Counted.{lookups_are_counted}
+use Rattle.driven_sessions.proofs.CountedOnly.{lookups_are_the_same}
 use Rattle.driven_sessions.proofs.Files.DirectoriesUsedRightly.{directories_used_rightly}
 use Rattle.driven_sessions.proofs.Files.NamedKept.{named_are_kept}
 use Rattle.driven_sessions.proofs.Files.OpenedKept.{opened_are_kept}
@@ -48,6 +49,7 @@ keeps_in asks log new run = record {
   large_forgets = large_forgets_never asks log new run;
   uncounted_nodes = uncounted_never asks log new run;
   lookups = lookups_are_counted asks log new run;
+  same_lookups = lookups_are_the_same asks log new run;
   taken = taken_where_served asks log new run;
   open_files = files_used_rightly asks log new run;
   open_directories = λ asks_it. asking asks asks_it log new run;

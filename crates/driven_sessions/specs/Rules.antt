@@ -5,7 +5,7 @@ use Rattle.fk_drive.specs.Driving.{Driven, Drives, first_driven}
 use Rattle.fk_drive_theorem.specs.AnsweredOnce.{AnsweredOnce}
 use Rattle.fk_drive_theorem.specs.TakenOnce.{NoneAgain, TakesNone, TakesReplyTo, mounts_in}
 use Rattle.fk_drive_theorem.specs.Tallies.{ForgottenAsGathered, tally_of}
-use Rattle.driven_sessions.specs.Counted.{CountsLookups}
+use Rattle.driven_sessions.specs.Counted.{CountsLookups, CountsSame, IsPlainRun}
 use Rattle.driven_sessions.specs.Driven.{IsFreeOf, IsFreeWhereCarried, IsFreeWhereTaken, IsFreeWhereTakenAndCarried, IsOneMount, IsTakenWhereServed}
 use Rattle.driven_sessions.specs.Files.{KeepsDirectoriesOpen, KeepsFilesOpen}
 use Rattle.driven_sessions.specs.Forgets.{AreAllSent, KeepsNamed, KeepsOpened}
@@ -31,6 +31,8 @@ pub record KeepsRulesIn {asks : Bool} {log : List Transfer} {new : Driven} (run 
   pub large_forgets : IsOneMount run → IsFreeWhereTakenAndCarried is_of_large_forgets run
   pub uncounted_nodes : IsOneMount run → IsFreeWhereTakenAndCarried is_of_uncounted_nodes run
   pub lookups : IsOneMount run → CountsLookups run
+  -- where moreover all that goes over the device is the kernel's, and the session has as refused what the kernel refused
+  pub same_lookups : IsOneMount run → IsPlainRun run → CountsSame run
   -- Where each reply is accepted, and the server has no fault, each was taken so;
   pub taken : IsTakenWhereServed run
   -- and where each agreement carries the codec's frames, each entry counts for certain, and the kernel mounts once, no use or

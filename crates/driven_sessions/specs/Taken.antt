@@ -67,3 +67,15 @@ AreTaken k s (said.Written bytes t ∷ ts) later all (acts, known, are, leads) (
 AreTaken k s (said.Written bytes t ∷ ts) later all leads [] = Unit {0}
 AreTaken k s [] later all leads outcomes = Unit {0}
 AreTaken k s (t ∷ ts) later all (acts, known, are, leads) outcomes = AreTaken known (s ++ acts) ts later all leads outcomes
+
+-- What the kernel did not accept a session has as refused.
+abbrev pub IsRefusedToo : Taken → Outcome → Type 0
+IsRefusedToo t (written Accepted) = Unit {0}
+IsRefusedToo t outcome = t ≡ taken.Accepted → ⊥
+
+-- Of each frame that is written in a session this became, in order, and it was refused where the kernel refused it.
+abbrev pub AreRefusedToo : List Said → List Outcome → Type 0
+AreRefusedToo (said.Written bytes t ∷ ts) (outcome ∷ outcomes) = IsRefusedToo t outcome × AreRefusedToo ts outcomes
+AreRefusedToo (said.Written bytes t ∷ ts) [] = Unit {0}
+AreRefusedToo [] outcomes = Unit {0}
+AreRefusedToo (t ∷ ts) outcomes = AreRefusedToo ts outcomes

@@ -8,7 +8,7 @@
 mod counted_lookups;
 mod never_accused;
 
-pub use counted_lookups::lookups_are_counted;
+pub use counted_lookups::{lookups_are_counted, lookups_are_the_same};
 pub use never_accused::{
     directories_are_used_rightly, files_are_used_rightly, forgets_are_of_lookups,
     forgets_are_of_what_is_counted, frames_are_requests, init_is_first,

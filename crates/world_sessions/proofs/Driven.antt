@@ -18,12 +18,11 @@ use Rattle.fk_kernel.specs.declared.read.Pick.TheVariants.{Forgets, Interrupt, P
 use Rattle.fk_drive.specs.Driving.{alone, first_driven, nothing as undriven}
 use Rattle.fk_drive.specs.KernelSteps.{ActsAlone, gives_answer}
 use Rattle.fk_drive_theorem.specs.TakenOnce.{mounts_alone}
-use Rattle.driven_sessions.proofs.Mounts.{DrivesMounting, mounts_next}
 use Rattle.driven_sessions.proofs.Rules.{keeps_in}
 use Rattle.world_sessions.specs.WorldTransfers.{AreTransfersAt, IsReplyOf, HasTransfers, answer_collected, collects, mounts_at, nothing, next}
 use Rattle.world_sessions.specs.KernelRules.{KernelKeepsRules}
 use Rattle.world_sessions.proofs.Alone.{aborts_now, begins_now, drops_now, evicts_now, mounts_now, signals_now, ticks_now}
-use Rattle.world_sessions.proofs.Reading.{driven_by, forgets_are, goes_over, may_forget, may_interrupt, may_read}
+use Rattle.world_sessions.proofs.Reading.{DrivesPlainly, driven_by, forgets_are, goes_over, may_forget, may_interrupt, may_read, plain_next}
 use Rattle.world_sessions.proofs.Served.{call_waits}
 use Rattle.world_sessions.proofs.Written.{comes_over}
 
@@ -47,41 +46,41 @@ some_copy a b same = ap of same
     of (Some x) = x
 
 module _ (w : World) (numbered : IsNumberedWhileLive w) (count : ℕ) (before : List Transfer)
-    (run : DrivesMounting count (first_driven false) before (driven_by w.kernel)) where
+    (run : DrivesPlainly count (first_driven false) before (driven_by w.kernel)) where
   -- nothing goes over the device
   stays : (k : Kernel) → k ≡ w.kernel → (log : List Transfer) → log ≡ []
-      → DrivesMounting (count + 0) (first_driven false) (before ++ log) (driven_by k)
+      → DrivesPlainly (count + 0) (first_driven false) (before ++ log) (driven_by k)
   stays k same log none =
-      subst (λ (l : List Transfer). DrivesMounting (count + 0) (first_driven false) (before ++ l) (driven_by k)) (sym none)
-      (subst (λ (l : List Transfer). DrivesMounting (count + 0) (first_driven false) l (driven_by k)) (sym (append-nil before))
-      (subst (λ (m : ℕ). DrivesMounting m (first_driven false) before (driven_by k)) (omega arith)
-      (subst (λ (l : Kernel). DrivesMounting count (first_driven false) before (driven_by l)) (sym same) run)))
+      subst (λ (l : List Transfer). DrivesPlainly (count + 0) (first_driven false) (before ++ l) (driven_by k)) (sym none)
+      (subst (λ (l : List Transfer). DrivesPlainly (count + 0) (first_driven false) l (driven_by k)) (sym (append-nil before))
+      (subst (λ (m : ℕ). DrivesPlainly m (first_driven false) before (driven_by k)) (omega arith)
+      (subst (λ (l : Kernel). DrivesPlainly count (first_driven false) before (driven_by l)) (sym same) run)))
 
   acts : (k : Kernel) (does : ActsAlone w.kernel k) (m : ℕ) → mounts_alone does ≡ m → (log : List Transfer) → log ≡ []
-      → DrivesMounting (count + m) (first_driven false) (before ++ log) (driven_by k)
+      → DrivesPlainly (count + m) (first_driven false) (before ++ log) (driven_by k)
   acts k does m is log none =
-      subst (λ (l : List Transfer). DrivesMounting (count + m) (first_driven false) (before ++ l) (driven_by k)) (sym none)
-      (subst (λ (c : ℕ). DrivesMounting (count + c) (first_driven false) (before ++ []) (driven_by k)) is
-      (mounts_next count (first_driven false) before (driven_by w.kernel) run [] (driven_by k) (alone k does)))
+      subst (λ (l : List Transfer). DrivesPlainly (count + m) (first_driven false) (before ++ l) (driven_by k)) (sym none)
+      (subst (λ (c : ℕ). DrivesPlainly (count + c) (first_driven false) (before ++ []) (driven_by k)) is
+      (plain_next count (first_driven false) before (driven_by w.kernel) run [] (driven_by k) (alone k does) tt))
 
   within_of : (after : World) → is_past after ≡ false → is_kernel_past_end after.kernel ≡ false
   within_of after past = (or_false _ _ (or_false _ _ past).0).0
 
   by_event : (choice : ℕ → ℕ) (e : Event) (o : Outcome) (after : World) → Happened choice w e o after → (log : List Transfer)
-      → AreTransfersAt w e after log → DrivesMounting (count + mounts_at e) (first_driven false) (before ++ log) (driven_by after.kernel)
+      → AreTransfersAt w e after log → DrivesPlainly (count + mounts_at e) (first_driven false) (before ++ log) (driven_by after.kernel)
   by_event choice e o after (by_mount f m v idle) log none = acts (kernel_mounted w.kernel) (mounts_now w.kernel idle).0 1 (mounts_now w.kernel idle).1 log none
   by_event choice e o after (by_call call ready room past) log none =
       acts (call_put w.kernel call) (begins_now w.kernel call ready room (within_of after past)).0 0 (begins_now w.kernel call ready room (within_of after past)).1 log none
   by_event choice e o after (by_read_interrupt original rest live there past) log (r, is, frame, says, result, same) =
       let mine : record { unique = interrupt_number original; body = interrupt original } ≡ r = some_last w.requests _ r is in
-      subst (λ (l : List Transfer). DrivesMounting (count + 0) (first_driven false) (before ++ l) (driven_by after.kernel)) (sym same)
+      subst (λ (l : List Transfer). DrivesPlainly (count + 0) (first_driven false) (before ++ l) (driven_by after.kernel)) (sym same)
       (goes_over w.kernel count before run Interrupt (may_interrupt w.kernel live original rest there) r
       (record { original = original; rest = rest; first = there; is = sym mine }) frame says result)
   by_event choice e o after (by_read_forgets n live free can past few) log (r, is, frame, says, result, same) =
       let mine : record { unique = w.kernel.queues.next; body = forget_body (take n w.kernel.queues.forgets) } ≡ r =
       some_last w.requests _ r is in
       let read = forgets_are w.kernel live n can few in
-      subst (λ (l : List Transfer). DrivesMounting (count + 0) (first_driven false) (before ++ l) (driven_by after.kernel)) (sym same)
+      subst (λ (l : List Transfer). DrivesPlainly (count + 0) (first_driven false) (before ++ l) (driven_by after.kernel)) (sym same)
       (goes_over w.kernel count before run (Forgets n) (may_forget w.kernel live free n _ read (within_of after past)) r
       (record {
         forgets = take n w.kernel.queues.forgets;
@@ -90,7 +89,7 @@ module _ (w : World) (numbered : IsNumberedWhileLive w) (count : ℕ) (before : 
       }) frame says result)
   by_event choice e o after (by_read_pending k unique kept body live free there asks past) log (r, is, frame, says, result, same) =
       let mine : record { unique = unique; body = body } ≡ r = some_last w.requests _ r is in
-      subst (λ (l : List Transfer). DrivesMounting (count + 0) (first_driven false) (before ++ l) (driven_by after.kernel)) (sym same)
+      subst (λ (l : List Transfer). DrivesPlainly (count + 0) (first_driven false) (before ++ l) (driven_by after.kernel)) (sym same)
       (goes_over w.kernel count before run (Pending k) (may_read w.kernel live free k unique kept body there asks) r
       (record {
         purpose = kept;
@@ -104,7 +103,7 @@ module _ (w : World) (numbered : IsNumberedWhileLive w) (count : ℕ) (before : 
   by_event choice e o after (by_again unique kept there current past) log none = stays after.kernel refl log none
   by_event choice e o after (by_write k it there past) log (copy, at, bytes, is, same) =
       let one = some_copy copy it (sym at ∙ there) in
-      subst (λ (l : List Transfer). DrivesMounting (count + 0) (first_driven false) (before ++ l) (driven_by after.kernel)) (sym same)
+      subst (λ (l : List Transfer). DrivesPlainly (count + 0) (first_driven false) (before ++ l) (driven_by after.kernel)) (sym same)
       (comes_over w.kernel bytes it.unique it.wire
       (subst (λ (c : Sent). IsReplyOf w.kernel bytes c.unique c.wire) one is)
       (call_waits w numbered it.unique) (within_of after past) count before run)
@@ -141,24 +140,26 @@ run_numbered n log w (next count before mid runs e o after happens last over) =
 run_numbered n log w (collects count before mid runs call) = still_numbered mid call (run_numbered count before mid runs)
 
 run_driven : (n : ℕ) (log : List Transfer) (w : World) → HasTransfers n log w
-    → DrivesMounting n (first_driven false) log (driven_by w.kernel)
-run_driven n log w nothing = (undriven, refl)
+    → DrivesPlainly n (first_driven false) log (driven_by w.kernel)
+run_driven n log w nothing = (undriven, refl, tt)
 run_driven n log w (next count before mid runs e o after happens last over) =
     by_event mid (run_numbered count before mid runs) count before (run_driven count before mid runs) happens.0 e o after
     (happened happens.0 mid o after e happens.2) last over
 run_driven n log w (collects count before mid runs call) =
     let k : Kernel = (answer_collected mid call).kernel in
-    subst (λ (m : ℕ). DrivesMounting m (first_driven false) before (driven_by k)) (omega arith)
-    (subst (λ (l : List Transfer). DrivesMounting (count + 0) (first_driven false) l (driven_by k)) (append-nil before)
-    (mounts_next count (first_driven false) before (driven_by mid.kernel) (run_driven count before mid runs) [] (driven_by k)
-    (alone k (gives_answer call))))
+    subst (λ (m : ℕ). DrivesPlainly m (first_driven false) before (driven_by k)) (omega arith)
+    (subst (λ (l : List Transfer). DrivesPlainly (count + 0) (first_driven false) l (driven_by k)) (append-nil before)
+    (plain_next count (first_driven false) before (driven_by mid.kernel) (run_driven count before mid runs) [] (driven_by k)
+    (alone k (gives_answer call)) tt))
 
 pub kernel_rules : KernelKeepsRules
 kernel_rules mounts log w runs =
-    let (run, count) = run_driven mounts log w runs in record {
+    let (run, count, plain) = run_driven mounts log w runs in record {
       new = driven_by w.kernel;
       same = refl;
       run = run;
       count = count;
+      plain = plain;
+      idles = refl;
       rules = keeps_in false log (driven_by w.kernel) run;
     }

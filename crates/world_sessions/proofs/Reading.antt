@@ -15,26 +15,38 @@ use Rattle.fk_kernel.specs.declared.read.Pick.{Pick}
 use Rattle.fk_kernel.specs.declared.read.Pick.TheVariants.{Forgets, Interrupt, Pending}
 use Rattle.fk_drive.specs.Driving.{Driven, IsSentFrame, first_driven, idle, picked, reads, sends, with_result}
 use Rattle.fk_drive_frames.specs.OwnRequests.{first_opendir_unique}
-use Rattle.driven_sessions.proofs.Mounts.{DrivesMounting, mounts_next}
+use Rattle.fk_drive.specs.Driving.{DriveStep, Drives, next}
+use Rattle.fk_drive_theorem.specs.TakenOnce.{mounts_at, mounts_in}
+use Rattle.driven_sessions.specs.Counted.{IsPlainRun, IsPlainStep}
 
 -- A driven kernel between two events of a world.
 abbrev pub driven_by : Kernel → Driven
 driven_by k = record { kernel = k; waiting = []; next = first_opendir_unique; asks = false; directories = []; turn = idle }
 
-module _ (k : Kernel) (n : ℕ) (before : List Transfer) (run : DrivesMounting n (first_driven false) before (driven_by k)) where
+-- It is so driven, mounts so often, and all that goes over the device is its.
+abbrev pub DrivesPlainly : (mounts : ℕ) → Driven → List Transfer → Driven → Type 0
+DrivesPlainly mounts old log new = (run : Drives old log new) × (mounts_in run ≡ mounts) × IsPlainRun run
+
+-- A step follows a run.
+pub plain_next : (n : ℕ) (a : Driven) (before : List Transfer) (mid : Driven) → DrivesPlainly n a before mid → (log : List Transfer)
+    (b : Driven) (step : DriveStep mid log b) → IsPlainStep step → DrivesPlainly (n + mounts_at step) a (before ++ log) b
+plain_next n a before mid (run, is, plain) log b step plain_step =
+    (next before mid run log b step, ap (λ (m : ℕ). m + mounts_at step) is, (plain_step, plain))
+
+module _ (k : Kernel) (n : ℕ) (before : List Transfer) (run : DrivesPlainly n (first_driven false) before (driven_by k)) where
   pub goes_over : (pick : Pick) → pick_refusal k pick ≡ None → (r : Request) → IsPicked k pick r → (frame : List ℕ)
-      → IsSentFrame frame r → (result : WriteResult) → DrivesMounting (n + 0) (first_driven false) (before ++ sent frame result ∷ [])
+      → IsSentFrame frame r → (result : WriteResult) → DrivesPlainly (n + 0) (first_driven false) (before ++ sent frame result ∷ [])
       (driven_by (record k { queues = after_pick k.queues pick }))
   goes_over pick may r is frame says result =
       let l : Kernel = record k { queues = after_pick k.queues pick } in
       let mid : Driven = record (driven_by k) { kernel = l; turn = picked r } in
-      let read : DrivesMounting (n + 0) (first_driven false) (before ++ []) mid =
-      mounts_next n (first_driven false) before (driven_by k) run [] mid (reads refl pick may r is) in
-      let behind : DrivesMounting (n + 0 + 0) (first_driven false) ((before ++ []) ++ sent frame result ∷ []) (driven_by l) =
-      mounts_next (n + 0) (first_driven false) (before ++ []) mid read (sent frame result ∷ []) (driven_by l)
-      (sends r refl (λ asks. absurd (false≢true asks)) frame says (sent frame result ∷ []) (with_result result)) in
-      subst (λ (m : ℕ). DrivesMounting m (first_driven false) (before ++ sent frame result ∷ []) (driven_by l)) (omega arith)
-      (subst (λ (first : List Transfer). DrivesMounting (n + 0 + 0) (first_driven false) (first ++ sent frame result ∷ []) (driven_by l))
+      let read : DrivesPlainly (n + 0) (first_driven false) (before ++ []) mid =
+      plain_next n (first_driven false) before (driven_by k) run [] mid (reads refl pick may r is) tt in
+      let behind : DrivesPlainly (n + 0 + 0) (first_driven false) ((before ++ []) ++ sent frame result ∷ []) (driven_by l) =
+      plain_next (n + 0) (first_driven false) (before ++ []) mid read (sent frame result ∷ []) (driven_by l)
+      (sends r refl (λ asks. absurd (false≢true asks)) frame says (sent frame result ∷ []) (with_result result)) tt in
+      subst (λ (m : ℕ). DrivesPlainly m (first_driven false) (before ++ sent frame result ∷ []) (driven_by l)) (omega arith)
+      (subst (λ (first : List Transfer). DrivesPlainly (n + 0 + 0) (first_driven false) (first ++ sent frame result ∷ []) (driven_by l))
       (append-nil before) behind)
 
 -- ---- nothing refuses it

@@ -24,8 +24,7 @@ use Rattle.fk_drive.specs.Driving.{Driven, first_driven, idle, waits, writes, re
 use Rattle.fk_drive.specs.KernelSteps.{IsReplyTaken}
 use Rattle.fk_drive_theorem.proofs.RunsTally.{said_is}
 use Rattle.world_sessions.specs.WorldTransfers.{IsReplyOf}
-use Rattle.driven_sessions.proofs.Mounts.{DrivesMounting, mounts_next}
-use Rattle.world_sessions.proofs.Reading.{driven_by}
+use Rattle.world_sessions.proofs.Reading.{DrivesPlainly, driven_by, plain_next}
 
 judged_of : (o : Operation ℕ Opened) → IsJudged (asked_opcode (asks o))
 judged_of (lookup d name) = tt
@@ -114,18 +113,18 @@ module _ (k : Kernel) (bytes : List ℕ) (unique : ℕ) (wire : WireReply) (is :
       let less = own.allocated in
       omega (arith, low, less)
 
-  pub comes_over : (n : ℕ) (before : List Transfer) → DrivesMounting n (first_driven false) before (driven_by k)
-      → DrivesMounting (n + 0) (first_driven false) (before ++ received bytes ∷ []) (driven_by (reply_written k unique wire).1)
+  pub comes_over : (n : ℕ) (before : List Transfer) → DrivesPlainly n (first_driven false) before (driven_by k)
+      → DrivesPlainly (n + 0) (first_driven false) (before ++ received bytes ∷ []) (driven_by (reply_written k unique wire).1)
   comes_over n before run =
       let l : Kernel = (reply_written k unique wire).1 in
       let mid : Driven = record (driven_by k) { waiting = bytes ∷ [] } in
-      let waited : DrivesMounting (n + 0) (first_driven false) (before ++ received bytes ∷ []) mid =
-      mounts_next n (first_driven false) before (driven_by k) run (received bytes ∷ []) mid (waits bytes not_other) in
-      let behind : DrivesMounting (n + 0 + 0) (first_driven false) ((before ++ received bytes ∷ []) ++ []) (driven_by l) =
-      mounts_next (n + 0) (first_driven false) (before ++ received bytes ∷ []) mid waited [] (driven_by l)
+      let waited : DrivesPlainly (n + 0) (first_driven false) (before ++ received bytes ∷ []) mid =
+      plain_next n (first_driven false) before (driven_by k) run (received bytes ∷ []) mid (waits bytes not_other) is.known in
+      let behind : DrivesPlainly (n + 0 + 0) (first_driven false) ((before ++ received bytes ∷ []) ++ []) (driven_by l) =
+      plain_next (n + 0) (first_driven false) (before ++ received bytes ∷ []) mid waited [] (driven_by l)
       (writes refl bytes [] refl bytes (inr (is.known, refl)) (reply_written k unique wire).0 l
       (taken_at unique refl is.under) [] first_opendir_unique [] idle
-      (releases_none (λ head less. All-nil (λ (d : ℕ × Opened). d.0 ≢ head_unique bytes)))) in
-      subst (λ (m : ℕ). DrivesMounting m (first_driven false) (before ++ received bytes ∷ []) (driven_by l)) (omega arith)
-      (subst (λ (log : List Transfer). DrivesMounting (n + 0 + 0) (first_driven false) log (driven_by l))
+      (releases_none (λ head less. All-nil (λ (d : ℕ × Opened). d.0 ≢ head_unique bytes)))) tt in
+      subst (λ (m : ℕ). DrivesPlainly m (first_driven false) (before ++ received bytes ∷ []) (driven_by l)) (omega arith)
+      (subst (λ (log : List Transfer). DrivesPlainly (n + 0 + 0) (first_driven false) log (driven_by l))
       (append-nil (before ++ received bytes ∷ [])) behind)

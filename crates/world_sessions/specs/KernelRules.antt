@@ -3,17 +3,21 @@ use Rattle.std.specs.Prelude.{◌≡◌, ◌≤◌, ◌+◌, ◌++◌, ℕ, fals
 use Rattle.fuse_device.specs.Transfers.{Transfer}
 use Rattle.fuse_spec.specs.Kernel.Kernel.{Kernel}
 use Rattle.fuse_spec.specs.World.Worlds.{World}
-use Rattle.fk_drive.specs.Driving.{Driven, Drives, first_driven}
+use Rattle.fk_drive.specs.Driving.{Driven, Drives, first_driven, idle}
 use Rattle.fk_drive_theorem.specs.TakenOnce.{mounts_in}
+use Rattle.driven_sessions.specs.Counted.{IsPlainRun}
 use Rattle.driven_sessions.specs.Rules.{KeepsRulesIn}
 use Rattle.world_sessions.specs.WorldTransfers.{HasTransfers}
 
--- A kernel is driven over these transfers to this kernel, mounts so often, and keeps the rules.
+-- A kernel is driven over these transfers to this kernel, mounts so often, and keeps the rules. All that goes over the device is
+-- its, and no request is on its way.
 pub record IsDrivenTo (mounts : ℕ) (log : List Transfer) (kernel : Kernel) : Type 0 where
   pub new : Driven
   pub same : new.kernel ≡ kernel
   pub run : Drives (first_driven false) log new
   pub count : mounts_in run ≡ mounts
+  pub plain : IsPlainRun run
+  pub idles : new.turn ≡ idle
   pub rules : KeepsRulesIn run
 
 -- In every run of the world, however its messages are spelled.

@@ -1,2 +1,3 @@
 pub mod WorldTransfers
 pub mod KernelRules
+pub mod AtRest

@@ -40,7 +40,7 @@ use Rattle.fuse_sessions.specs.RequestActs.{asked_of, asking, forgets_in, naming
 use Rattle.fuse_sessions.specs.Sessions.{Session, left}
 use Rattle.fuse_sessions.specs.UnreadRequests.{asking_unread, has_header, malformed, may_be_known, opcode_in, takes_no_reply, unjudged, unique_in}
 use Rattle.fuse_sessions.specs.Waiting.{same_kind, waits}
-use Rattle.driven_sessions.proofs.Calm.{each_of, either, failed_plain, init_plain, is_plain, replied_such, such, written_such}
+use Rattle.driven_sessions.proofs.Calm.{bare_such, each_of, either, failed_bare, init_bare, is_plain, replied_such, written_such}
 use Rattle.driven_sessions.proofs.Files.Opened.{as_file, is_file, left_most, opens_in, releases_in}
 
 -- ---- acts that open nothing
@@ -200,8 +200,7 @@ module _ (k : Known) (carries : Carries k.agreed) (bytes : List ℕ) (a : Asked)
   first_unopening : (content : AnswerContent) → AreUnopening (first ++ init_acts k.offered content)
   first_unopening content = each_of is_unopening first (init_acts k.offered content)
       (replied_such is_unopening unopening_plain k bytes taken.Accepted taken.Accepted (fit_in (row_at op.Opendir).reply a.asked bytes))
-      (such is_unopening unopening_plain (init_acts k.offered content)
-      (init_plain is_unopening unopening_plain k bytes taken.Accepted k.offered content))
+      (bare_such is_unopening unopening_plain (init_acts k.offered content) (init_bare k.offered content))
 
   -- What a reply says, where it is one.
   says_so : (m : ReplyMessage) (content : AnswerContent) → m.answer ≡ content
@@ -224,7 +223,7 @@ module _ (k : Known) (carries : Carries k.agreed) (bytes : List ℕ) (a : Asked)
   failed_so m errno is same = ap (list_all is_unopening) (says_so m (answer.failed errno) is same)
       ∙ each_of is_unopening (first ++ init_acts k.offered (answer.failed errno)) (failed_acts op.Opendir a.nodeid errno)
       (first_unopening (answer.failed errno))
-      (such is_unopening unopening_plain (failed_acts op.Opendir a.nodeid errno) (failed_plain op.Opendir a.nodeid errno))
+      (bare_such is_unopening unopening_plain (failed_acts op.Opendir a.nodeid errno) (failed_bare op.Opendir a.nodeid errno))
 
   -- It opens one, with the handle in it, or none.
   abbrev pub OpensOne : Type 0
