@@ -1,5 +1,6 @@
 -- Each operation keeps what is true of every tree.
-use Rattle.std.proofs.Common.{◌≡◌, ◌≢◌, ℕ, ◌+◌, ◌≤◌, Bool, true, false, true≢false, not, cond, ◌&&◌, List, [], ◌∷◌, Option, Some, None, IsSome, is_some, nat_eq, nat_le, find, filter, length, count_by, option_map, refl, ap, sym, subst, ◌∙◌, arith, All, Contains, ◌⊎◌, inl, inr, eq-eqb}
+use Rattle.std.proofs.Common.{◌≡◌, ◌≢◌, ℕ, ◌+◌, ◌≤◌, ◌<◌, Bool, true, false, true≢false, not, cond, ◌&&◌, List, [], ◌∷◌, Option, Some, None, IsSome, is_some, nat_eq, nat_le, find, filter, length, count_by, option_map, refl, ap, sym, subst, ◌∙◌, arith, All, Contains, ◌⊎◌, inl, inr, eq-eqb}
+use Rattle.std.proofs.lemmas.Bool.Decides.{nat_tests}
 use Rattle.std.proofs.lemmas.List.Elements.{All-push, All-filter, All-contains, All-contains_itself}
 use Rattle.std.proofs.lemmas.List.Sums.{length-filter}
 use Rattle.fuse_spec.specs.Values.Maps.{get, put}
@@ -241,6 +242,19 @@ module _ (tree : Tree) (shaped : IsShaped tree) where
       let third = passes (is_some (file_at tree d name), eexist)
       ((nat_le max_names (length tree.names), enospc) ∷ []) second.1 in
       made tree shaped d name content (is_true _ first.0) second.0 third.0
+
+  -- There is room for its name.
+  pub has_room : (d : ℕ) (name : Name) → refusal tree (mkdir d name) ≡ None → length tree.names < max_names
+  has_room d name free =
+      let first = passes (not (is_directory tree d), enotdir) ((is_nameless tree d, enoent) ∷ making tree d name) free in
+      let second = passes (is_nameless tree d, enoent) (making tree d name) first.1 in
+      let third = passes (is_some (file_at tree d name), eexist)
+      ((nat_le max_names (length tree.names), enospc) ∷ []) second.1 in
+      let fourth = passes (nat_le max_names (length tree.names), enospc) [] third.1 in
+      below (length tree.names) max_names fourth.0
+    where
+      below : (n most : ℕ) → nat_le most n ≡ false → n < most
+      below n most e = grind (arith, nat_tests, e)
 
   pub unlinked : (d : ℕ) (name : Name) → refusal tree (unlink d name) ≡ None → IsShaped (without_name tree d name)
   unlinked d name free =

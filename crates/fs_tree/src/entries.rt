@@ -122,15 +122,14 @@ impl<A: Allocator + Copy> Entries<A> {
             ++ record { name = name.items; file = link.file; cookie = link.cookie } ∷ []) }
         ensures unchanged { OnErr result (self.new ≡ self.old) }
     {
-        let replaced = self.cookie_at(&name);
         let leaf = NamedFile {
             name: copy_of(&name, self.alloc)?,
             file: link.file,
         };
         let _none = self.names.insert(link.cookie, leaf)?;
         match self.links.insert(name, link) {
-            Ok(_) => {
-                take_away(&mut self.names, replaced);
+            Ok(replaced) => {
+                take_away(&mut self.names, cookie_of(replaced));
                 Ok(())
             }
             Err(_) => {
@@ -204,6 +203,17 @@ fn list_file(listed: &mut ArrayVec<u64, MOST_LISTED>, name: &[u8], file: u64)
 {
     if !is_dots(name) {
         listed.push(file);
+    }
+}
+
+/// The cookie of a link, if there is one.
+#[inline(always)]
+fn cookie_of(link: Option<Link>) -> Option<u64>
+    ensures { result ≡ option_map (λ l. l.cookie) link }
+{
+    match link {
+        Some(link) => Some(link.cookie),
+        None => None,
     }
 }
 

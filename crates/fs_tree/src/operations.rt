@@ -64,7 +64,8 @@ impl<A: Allocator + Copy> Tree<A> {
         ensures refused { IfErr result (IsOperationRefused self.old (mkdir directory name.now)) }
         ensures unchanged { OnErr result (self.new ≡ self.old) }
     {
-        self.make(directory, name, Content::Directory)
+        self.may_create(directory, name)?;
+        Ok(self.make_directory(directory, name)?)
     }
 
     /// Makes a regular file without bytes, and gives its inode.
@@ -80,26 +81,57 @@ impl<A: Allocator + Copy> Tree<A> {
         ensures refused { IfErr result (IsOperationRefused self.old (create directory name.now)) }
         ensures unchanged { OnErr result (self.new ≡ self.old) }
     {
+        self.may_create(directory, name)?;
+        Ok(self.make_file(directory, name)?)
+    }
+
+    /// Makes a directory where nothing refuses it, as `may_create` says, and gives its inode.
+    ///
+    /// # Errors
+    ///
+    /// Out of memory. The tree is as before.
+    pub fn make_directory(&mut self, directory: u64, name: &[u8]) -> Result<u64, AllocError>
+        requires unrefused { refusal self.old (mkdir directory name.now) ≡ None }
+        requires inodes { self.old.next_inode < counter_end }
+        requires cookies { self.old.next_cookie < counter_end }
+        ensures ok { IfOk result (λ file. (file ≡ self.old.next_inode)
+            × (self.new ≡ tree_unrefused self.old (mkdir directory name.now))) }
+        ensures unchanged { OnErr result (self.new ≡ self.old) }
+    {
+        self.make(directory, name, Content::Directory)
+    }
+
+    /// Makes a regular file without bytes where nothing refuses it, as `may_create` says, and gives its inode.
+    ///
+    /// # Errors
+    ///
+    /// Out of memory. The tree is as before.
+    pub fn make_file(&mut self, directory: u64, name: &[u8]) -> Result<u64, AllocError>
+        requires unrefused { refusal self.old (create directory name.now) ≡ None }
+        requires inodes { self.old.next_inode < counter_end }
+        requires cookies { self.old.next_cookie < counter_end }
+        ensures ok { IfOk result (λ file. (file ≡ self.old.next_inode)
+            × (self.new ≡ tree_unrefused self.old (create directory name.now))) }
+        ensures unchanged { OnErr result (self.new ≡ self.old) }
+    {
         let bytes = Vec::new(self.alloc);
         self.make(directory, name, Content::Regular(bytes))
     }
 
-    fn make(&mut self, directory: u64, name: &[u8], content: Content<A>) -> Result<u64, TreeError>
+    fn make(&mut self, directory: u64, name: &[u8], content: Content<A>) -> Result<u64, AllocError>
+        requires unrefused { refusal self.old (mkdir directory name.now) ≡ None }
         requires inodes { self.old.next_inode < counter_end }
         requires cookies { self.old.next_cookie < counter_end }
-        ensures ok { IfOk result (λ file. (refusal self.old (mkdir directory name.now) ≡ None)
-            × ((file ≡ self.old.next_inode) × (self.new ≡ with_inode self.old directory name.now
-            (content_in content)))) }
-        ensures refused { IfErr result (IsOperationRefused self.old (mkdir directory name.now)) }
+        ensures ok { IfOk result (λ file. (file ≡ self.old.next_inode) × (self.new ≡ with_inode self.old directory name.now
+            (content_in content))) }
         ensures unchanged { OnErr result (self.new ≡ self.old) }
     {
-        self.may_create(directory, name)?;
         let file = self.next_inode;
         let cookie = self.next_cookie;
         self.files.push(file, content)?;
         if let Err(error) = self.names.add(directory, name, file, cookie) {
             self.files.remove(file);
-            return Err(error.into());
+            return Err(error);
         }
         self.next_inode = file + 1;
         self.next_cookie = cookie + 1;

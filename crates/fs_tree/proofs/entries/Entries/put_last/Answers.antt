@@ -1,13 +1,15 @@
 use Rattle.std.proofs.Common.{ap, ◌∙◌, map, refl, Some}
+use Rattle.std.specs.Option.{option_map}
 use Rattle.fs_tree.specs.Stored.{Entry, without_key}
 use Rattle.fs_tree.specs.EntryViews.{leaf_entry}
-use Rattle.fs_tree.proofs.NameLinks.{AreLinked-put, AreNamedOnce-put, put-entries, unput-entries}
+use Rattle.fs_tree.proofs.NameLinks.{AreLinked-put, cookie-of, AreNamedOnce-put, put-entries, unput-entries}
 use Rattle.fs_tree.proofs.entries.Entries.put_last.Goals as goal
 
 pub invariant_of-self-in-Ok : goal.invariant_of-self-in-Ok
 invariant_of-self-in-Ok g c =
     let before = rw (← c.self.view_is) at c.requires in
-    let replaced = rw (← c.self.view_is, c.deref.ensures.value) at c.cookie_at-replaced.ensures in
+    let replaced = c.cookie_of.ensures ∙ ap (option_map (λ l. l.cookie)) c.in-Ok.ensures.old
+    ∙ cookie-of _ _ (c.self.invariant.0 c.args.name.items) in
     let updates = c.in-Ok.ensures.updates in
     let x : Entry = record { name = c.args.name.items; file = c.args.link.file; cookie = c.args.link.cookie } in
     rw (
@@ -16,7 +18,7 @@ invariant_of-self-in-Ok g c =
       replaced,
       put-entries c.args.name.items c.self.inside.names.entries c.self.invariant.1 c.in_ok-_none.ensures.was_ordered c.args.link.cookie _ before,
       c.in_ok-copy_of.ensures,
-      c.deref-2.ensures.value,
+      c.deref.ensures.value,
     ) (
       AreLinked-put x c.args.link c.self.inside.links.entries _
           (map leaf_entry c.self.inside.names.entries) refl refl updates.3 updates.1 c.self.invariant.0,
@@ -26,7 +28,8 @@ invariant_of-self-in-Ok g c =
 pub returns-in-Ok-clause-ok : goal.returns-in-Ok-clause-ok
 returns-in-Ok-clause-ok g c =
     let before = rw (← c.self.view_is) at c.requires in
-    let replaced = rw (← c.self.view_is, c.deref.ensures.value) at c.cookie_at-replaced.ensures in
+    let replaced = c.cookie_of.ensures ∙ ap (option_map (λ l. l.cookie)) c.in-Ok.ensures.old
+    ∙ cookie-of _ _ (c.self.invariant.0 c.args.name.items) in
     rw (← c.self.view_is)
     (ap (map leaf_entry) c.take_away.ensures.entries
     ∙ rw (
@@ -34,7 +37,7 @@ returns-in-Ok-clause-ok g c =
       replaced,
       put-entries c.args.name.items c.self.inside.names.entries c.self.invariant.1 c.in_ok-_none.ensures.was_ordered c.args.link.cookie _ before,
       c.in_ok-copy_of.ensures,
-      c.deref-2.ensures.value,
+      c.deref.ensures.value,
     ) refl)
 
 pub invariant_of-self-in-Err : goal.invariant_of-self-in-Err

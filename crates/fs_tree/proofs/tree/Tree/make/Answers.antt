@@ -2,7 +2,7 @@ use Rattle.std.proofs.Common.{rules}
 use Rattle.fs_tree.proofs.Keeping.{kept-named, kept-born, unborn}
 use Rattle.fs_tree.specs.Views.{content_in}
 use Rattle.fs_tree.proofs.FileRows.{put-undone}
-use Rattle.fs_tree.proofs.KeepsShape.{make}
+use Rattle.fs_tree.proofs.KeepsShape.{has_room, make}
 use Rattle.fs_tree.proofs.tree.Tree.make.Goals as goal
 
 pub push-requires : goal.push-requires
@@ -14,9 +14,8 @@ invariant_of-self-2 g c =
     let cookies = rw (← c.self.view_is) at c.requires.cookies in
     rw (c.in_ok-push.ensures.ok, c.in_default.ensures.ok) (
       kept-born _ _ _ _ (kept-named _ _ _ _ c.self.invariant.0 _ (search rules)
-          (rw (← c.self.view_is) at c.in_ok-may_create.ensures.room) cookies) _ inodes,
-      make _ c.self.invariant.1 c.args.directory c.args.name.now _
-          (rw (← c.self.view_is) at c.in_ok-may_create.ensures.refusal),
+          (has_room _ c.self.invariant.1 c.args.directory c.args.name.now (rw (← c.self.view_is) at c.requires.unrefused)) cookies) _ inodes,
+      make _ c.self.invariant.1 c.args.directory c.args.name.now _ (rw (← c.self.view_is) at c.requires.unrefused),
     )
 
 pub invariant_of-self-in-Err : goal.invariant_of-self-in-Err
