@@ -111,13 +111,14 @@ fn make_directory<A: Allocator + Copy>(
     directory: u64,
     name: &[u8],
 ) -> Result<Outcome<A>, AllocError>
+    requires unrefused { refusal tree.old (mkdir directory name.now) ≡ None }
     requires inodes { tree.old.next_inode < counter_end }
     requires cookies { tree.old.next_cookie < counter_end }
     ensures ok { IfOk result (λ outcome. (v : ValidityValue)
         → Operates v tree.old (mkdir directory name.now) outcome tree.new) }
     ensures err { OnErr result (tree.new ≡ tree.old) }
 {
-    match tree.mkdir(directory, name) {
+    match tree.make_directory(directory, name) {
         Ok(file) => Ok(Outcome::Entry { file }),
         Err(_) => Err(AllocError),
     }
@@ -129,13 +130,14 @@ fn make_file<A: Allocator + Copy>(
     directory: u64,
     name: &[u8],
 ) -> Result<Outcome<A>, AllocError>
+    requires unrefused { refusal tree.old (create directory name.now) ≡ None }
     requires inodes { tree.old.next_inode < counter_end }
     requires cookies { tree.old.next_cookie < counter_end }
     ensures ok { IfOk result (λ outcome. (v : ValidityValue)
         → Operates v tree.old (create directory name.now) outcome tree.new) }
     ensures err { OnErr result (tree.new ≡ tree.old) }
 {
-    match tree.create(directory, name) {
+    match tree.make_file(directory, name) {
         Ok(file) => Ok(Outcome::Created { file }),
         Err(_) => Err(AllocError),
     }

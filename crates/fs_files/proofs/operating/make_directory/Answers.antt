@@ -3,4 +3,4 @@ use Rattle.fs_files.proofs.operating.make_directory.Goals as goal
 
 pub returns-in-Ok-clause-ok : goal.returns-in-Ok-clause-ok
 returns-in-Ok-clause-ok g c =
-    λ v. makes_directory v c.args.tree.now c.args.directory c.args.name.now c.in-Ok.file c.mkdir.new.self c.requires.inodes c.in-Ok.ensures.ok.1.0 c.in-Ok.ensures.ok.1.1
+    λ v. makes_directory v c.args.tree.now c.args.directory c.args.name.now c.in-Ok.file c.make_directory.new.self c.requires.inodes c.in-Ok.ensures.ok.0 c.in-Ok.ensures.ok.1
