@@ -58,7 +58,6 @@ pub fn bind_missing<A: Allocator + Copy>(
         (record { target = None; until = clock + valid_ms })) }
     ensures err { OnErr result (names.new.names ≡ names.old.names) }
 {
-    names.reserve(directory, name)?;
-    names.put(directory, name, None, clock + valid_ms);
+    let _was = names.bind(directory, name, None, clock + valid_ms)?;
     Ok(())
 }

@@ -1,6 +1,7 @@
 pub mod Places
 pub mod SortedEntries
 pub mod PlaceOrder
+pub mod Restored
 pub mod KeyedRows
 pub mod BoundNames
 pub mod FirstBound

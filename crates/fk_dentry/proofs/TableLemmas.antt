@@ -1,5 +1,5 @@
 -- Slots and the nodes that they name, through a write, a new row and a removal.
-use Rattle.std.proofs.Common.{◌≡◌, ℕ, zero, suc, ◌+◌, ◌≤◌, ◌<◌, List, [], ◌∷◌, length, set, get_or, Bool, Option, Some, None, true, false, cond, refl, ap, sym, subst, ◌∙◌, arith, T, inl, inr}
+use Rattle.std.proofs.Common.{◌≡◌, ℕ, zero, suc, ◌+◌, ◌*◌, ◌≤◌, ◌<◌, List, [], ◌∷◌, length, set, get_or, Bool, Option, Some, None, true, false, cond, refl, ap, sym, subst, ◌∙◌, arith, T, inl, inr}
 use Rattle.std.specs.Prelude.{slice_get, is_some, IsSome}
 use Rattle.std.specs.List.{remove}
 use Rattle.std.specs.Ordering.{is_eq, is_gt}
@@ -199,13 +199,13 @@ module _ {slots : Slots} {count : ℕ → ℕ} {total capacity : ℕ} (key : Pla
     unfolding r
     slot_is = (entry_there slots key slot t.sorted is).1
 
-    slot_among : (q : ℕ) → times q (named_by key.0 slot) ≤ count q
+    pub slot_among : (q : ℕ) → times q (named_by key.0 slot) ≤ count q
     slot_among q = subst (λ (b : Option Dentry). times q (named_by key.0 b) ≤ count q) slot_is (held_among r t q)
 
-    slot_room : total + 2 ≤ capacity + length (named_by key.0 slot)
+    pub slot_room : total + 2 ≤ capacity + length (named_by key.0 slot)
     slot_room = subst (λ (b : Option Dentry). total + 2 ≤ capacity + length (named_by key.0 b)) slot_is (room_held r t)
 
-    slot-with : (dentry : Dentry) (after : ℕ → ℕ) (total_after most : ℕ)
+    pub slot-with : (dentry : Dentry) (after : ℕ → ℕ) (total_after most : ℕ)
         → ((q : ℕ) → after q + times q (named_by key.0 slot) ≡ count q + times q (named key.0 dentry.target))
         → total_after + length (named_by key.0 slot) ≡ total + length (named key.0 dentry.target) → capacity ≤ most
         → IsNameTable (put_name slots key (Some dentry)) after total_after most
@@ -285,23 +285,38 @@ place_bound key (slot ∷ slots) =
     elim (is_gt (place_cmp key slot.0)) as (λ b. cond b (suc (place_among place_cmp key slots)) 0 ≤ length
     (slot ∷ slots)) [ true ↦ omega arith | false ↦ omega arith ]
 
+pub table-new : {slots : Slots} {count : ℕ → ℕ} {total capacity : ℕ} (key : Place) (slot : Option Dentry)
+    (after : ℕ → ℕ) (total_after most : ℕ)
+    → IsNameTable slots count total capacity → get_name slots key ≡ None
+    → ((q : ℕ) → after q ≡ count q + times q (named_by key.0 slot))
+    → total_after ≡ total + length (named_by key.0 slot) → length slots + 1 + (length slots + 1) ≤ most
+    → IsNameTable (put_name slots key slot) after total_after most
+table-new {slots = slots} key slot after total_after most t none more as_many fits = record {
+  sorted = sorted-put slots key slot t.sorted;
+  named = λ q.
+      let entered = sum_by-insert (λ s. times q (nodes_of_name s)) slots (place_among place_cmp key slots) (key, slot) in
+      let was = t.named q in
+      let now = more q in
+      let is = ap (uses q) (put_is place_cmp place_total key slot slots none) in
+      omega arith;
+  many =
+      let entered = sum_by-insert (λ s. length (nodes_of_name s)) slots (place_among place_cmp key slots) (key, slot) in
+      let was = t.many in
+      let is = ap mentions (put_is place_cmp place_total key slot slots none) in
+      omega arith;
+  room =
+      let longer = length-insert slots (place_among place_cmp key slots) (key, slot) (place_bound key slots) in
+      let is = ap length (put_is place_cmp place_total key slot slots none) in
+      omega arith;
+}
+
 pub table-room : {slots : Slots} {count : ℕ → ℕ} {total capacity : ℕ} (key : Place) (most : ℕ)
     → IsNameTable slots count total capacity → get_name slots key ≡ None → length slots + 1 + (length slots + 1) ≤ most
     → IsNameTable (put_name slots key None) count total most
-table-room {slots = slots} key most t none fits = record {
-  sorted = sorted-put slots key None t.sorted;
-  named = λ q.
-      let more = sum_by-insert (λ s. times q (nodes_of_name s)) slots (place_among place_cmp key slots) (key, None) in
-      let was = t.named q in
-      let is = ap (uses q) (put_is place_cmp place_total key None slots none) in
-      omega arith;
-  many =
-      let more = sum_by-insert (λ s. length (nodes_of_name s)) slots (place_among place_cmp key slots) (key, None) in
-      let was = t.many in
-      let is = ap mentions (put_is place_cmp place_total key None slots none) in
-      omega arith;
-  room =
-      let more = length-insert slots (place_among place_cmp key slots) (key, None) (place_bound key slots) in
-      let is = ap length (put_is place_cmp place_total key None slots none) in
-      omega arith;
-}
+table-room {count = count} {total = total} key most t none fits =
+    table-new key None count total most t none (λ q. omega arith) (omega arith) fits
+
+-- as many are named as room was made for, but two a new name
+pub new_fits : {slots : Slots} {count : ℕ → ℕ} {total capacity : ℕ} → IsNameTable slots count total capacity
+    → total + 2 ≤ 2 * (length slots + 1)
+new_fits {slots = slots} t = (let many = t.many in let most = mentions_most slots in omega arith)

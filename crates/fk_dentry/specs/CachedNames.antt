@@ -4,7 +4,7 @@ use Rattle.std.specs.Coded.{Coded, code_by, coded×, coded_ℕ, coded_list, code
 use Rattle.std.specs.List.{list_any}
 use Rattle.fuse_spec.specs.declared.Dentry.{Dentry}
 use Rattle.fuse_spec.specs.contracts.Dentry.{the_row}
-use Rattle.fuse_spec.specs.Values.Maps.{Place, NameMap, get_name}
+use Rattle.fuse_spec.specs.Values.Maps.{Place, NameMap, get_name, put_name, remove_name}
 use Rattle.fuse_spec.specs.Kernel.Kernel.{leads_to}
 use Rattle.fk_dentry.specs.declared.found.Found.{Found}
 use Rattle.fk_dentry.specs.declared.found.Found.TheVariants.{Node, Missing, Unknown}
@@ -33,6 +33,11 @@ names_code =
 -- To bind the name takes no memory.
 abbrev pub HasRoom : NamesInForce → Place → Type 0
 HasRoom names place = IsSome (get_name names.slots place)
+
+-- The names once this stands under a name, or nothing.
+abbrev pub restored : NameMap Dentry → Place → Option Dentry → NameMap Dentry
+restored names place None = remove_name names place
+restored names place (Some dentry) = put_name names place dentry
 
 -- What a name that is valid leads to.
 abbrev pub found_by : Option (Option ℕ) → Found

@@ -1,8 +1,8 @@
 //! The cached names.
-ghost use Rattle.std.specs.Prelude.{◌≡◌, ◌≢◌, ℕ, [], MatchOption, OnOk, IsOk, IsSome, is_some, vec_len};
+ghost use Rattle.std.specs.Prelude.{◌≡◌, ◌≢◌, ℕ, [], None, MatchOption, OnErr, OnOk, IfOk, IfSome, IsOk, IsSome, is_some, vec_len};
 ghost use Rattle.fuse_spec.specs.Values.Maps.{Place, get_name, put_name, remove_name};
 ghost use Rattle.fuse_spec.specs.Calls.Vfs.{valid_at};
-ghost use Rattle.fk_dentry.specs.CachedNames.{HasRoom, found_by, names_the_node};
+ghost use Rattle.fk_dentry.specs.CachedNames.{HasRoom, found_by, names_the_node, restored};
 
 use crate::found::Found;
 use crate::key::NameKey;
@@ -16,15 +16,15 @@ use std::marker::Model;
 /// The cached names: each name of a directory that is bound, with the node to which it leads, if any, and the time
 /// in milliseconds from which it is valid no more.
 ///
-/// A dentry whose time has passed says nothing, but it stays until it is replaced or removed. Only `reserve` takes
-/// memory.
+/// A dentry whose time has passed says nothing, but it stays until it is replaced or removed. Only `reserve` and `bind`
+/// take memory.
 ///
 /// What each call costs, for `n` names, whatever they are:
 ///
 /// | Call | Time |
 /// |---|---|
 /// | `find`, `bound`, `names_node`, `remove` | log `n` steps |
-/// | `put`, `reserve` | log `n` steps, on the whole of many calls: at times one moves all counts of nodes |
+/// | `put`, `reserve`, `bind`, `restore` | log `n` steps, on the whole of many calls: at times one moves all counts of nodes |
 /// | `first`, `clear` | `n` steps |
 #[derive(Drop)]
 pub struct Bindings<A: Allocator = Global> {
@@ -104,7 +104,7 @@ impl<A: Allocator + Copy> Bindings<A> {
         }
         self.nodes.reserve(self.rows.len() + 1)?;
         let name = name.to_vec(self.alloc)?;
-        add(&mut self.rows, NameKey::new(directory, name))?;
+        add(&mut self.rows, NameKey::new(directory, name), None)?;
         Ok(())
     }
 
@@ -115,16 +115,82 @@ impl<A: Allocator + Copy> Bindings<A> {
             (record { target = target; until = until }) }
         ensures kept { (other : Place) → HasRoom self.old other → HasRoom self.new other }
     {
-        self.set(directory, name, Dentry { target, until });
+        let _was = self.set(directory, name, Dentry { target, until });
     }
 
-    fn set(&mut self, directory: u64, name: &[u8], dentry: Dentry)
+    /// `reserve` and `put` with one search where the name has room. Gives what the name was bound to.
+    ///
+    /// # Errors
+    ///
+    /// Out of memory: the name had no room. Nothing changed.
+    pub fn bind(
+        &mut self,
+        directory: u64,
+        name: &[u8],
+        target: Option<u64>,
+        until: u64,
+    ) -> Result<Option<Dentry>, AllocError>
+        ensures was { IfOk result (λ was. was ≡ get_name self.old.names (directory, name.now)) }
+        ensures names { OnOk result (self.new.names ≡ put_name self.old.names (directory, name.now)
+            (record { target = target; until = until })) }
+        ensures undone { IfOk result (λ was. restored self.new.names (directory, name.now) was ≡ self.old.names) }
+        ensures room { OnOk result (HasRoom self.new (directory, name.now)) }
+        ensures unchanged { OnErr result (self.new.names ≡ self.old.names) }
+        ensures kept { (other : Place) → HasRoom self.old other → HasRoom self.new other }
+        ensures succeeds { HasRoom self.old (directory, name.now) → IsOk result }
+    {
+        let dentry = Dentry { target, until };
+        if let Some(was) = self.set(directory, name, dentry) {
+            return Ok(was);
+        }
+        self.bind_new(directory, name, dentry)?;
+        Ok(None)
+    }
+
+    /// Undoes `bind`, which gave this dentry, or none.
+    pub fn restore(&mut self, directory: u64, name: &[u8], was: Option<Dentry>)
         requires { HasRoom self.old (directory, name.now) }
-        ensures names { self.new.names ≡ put_name self.old.names (directory, name.now) dentry }
+        ensures names { self.new.names ≡ restored self.old.names (directory, name.now) was }
+        ensures kept { (other : Place) → other ≢ (directory, name.now) → HasRoom self.old other
+            → HasRoom self.new other }
+    {
+        match was {
+            Some(dentry) => self.put(directory, name, dentry.target, dentry.until),
+            None => {
+                let _dentry = self.take_out(directory, name);
+            }
+        }
+    }
+
+    /// Binds a name if it has room, and gives what stood there.
+    fn set(&mut self, directory: u64, name: &[u8], dentry: Dentry) -> Option<Option<Dentry>>
+        ensures stood { result ≡ get_name self.old.slots (directory, name.now) }
+        ensures was { IfSome result (λ was. was ≡ get_name self.old.names (directory, name.now)) }
+        ensures names { IsSome result → self.new.names ≡ put_name self.old.names (directory, name.now) dentry }
+        ensures undone { IfSome result (λ was. restored self.new.names (directory, name.now) was ≡ self.old.names) }
+        ensures absent { result ≡ None → self.new ≡ self.old }
         ensures kept { (other : Place) → HasRoom self.old other → HasRoom self.new other }
     {
-        let old = bind(&mut self.rows, directory, name, dentry);
-        self.nodes.replace(directory, old, dentry.target);
+        let stood = bind(&mut self.rows, directory, name, dentry)?;
+        self.nodes.replace(directory, stood, dentry.target);
+        Some(stood)
+    }
+
+    /// Binds a name that has no room.
+    fn bind_new(&mut self, directory: u64, name: &[u8], dentry: Dentry) -> Result<(), AllocError>
+        requires { get_name self.old.slots (directory, name.now) ≡ None }
+        ensures unbound { OnOk result (get_name self.old.names (directory, name.now) ≡ None) }
+        ensures names { OnOk result (self.new.names ≡ put_name self.old.names (directory, name.now) dentry) }
+        ensures undone { OnOk result (remove_name self.new.names (directory, name.now) ≡ self.old.names) }
+        ensures room { OnOk result (HasRoom self.new (directory, name.now)) }
+        ensures unchanged { OnErr result (self.new.names ≡ self.old.names) }
+        ensures kept { (other : Place) → HasRoom self.old other → HasRoom self.new other }
+    {
+        self.nodes.reserve(self.rows.len() + 1)?;
+        let name = name.to_vec(self.alloc)?;
+        add(&mut self.rows, NameKey::new(directory, name), Some(dentry))?;
+        self.nodes.enter(directory, dentry.target);
+        Ok(())
     }
 
     /// Removes the dentry of a name and its room. Says whether it was bound, also after its end.

@@ -108,7 +108,7 @@ impl<A: Allocator + Copy> NodeCounts<A> {
     }
 
     /// A dentry is new.
-    fn enter(&mut self, directory: u64, target: Option<u64>)
+    pub fn enter(&mut self, directory: u64, target: Option<u64>)
         requires { total_in self.old.counts.entries + 2 ≤ self.old.most }
         ensures count { (q : ℕ) → mentions_of self.new.counts.entries q
             ≡ mentions_of self.old.counts.entries q + times q (named directory target) }

@@ -1,5 +1,5 @@
 //! The names that have room, in an ordered map.
-ghost use Rattle.std.specs.Prelude.{◌≡◌, ℕ, [], None, Some, IfNone, IfSome, IsSome, OnErr, OnOk};
+ghost use Rattle.std.specs.Prelude.{◌≡◌, [], None, Some, IfNone, IfSome, IsSome, OnErr, OnOk};
 ghost use Rattle.fuse_spec.specs.Values.Maps.{get_name, put_name, remove_name};
 ghost use Rattle.fk_dentry.specs.Rows.{slots_of, bound_in, bound_names};
 
@@ -27,41 +27,39 @@ pub(crate) fn slot<A: Allocator>(
     .copied()
 }
 
-/// Puts a row without a dentry. Where memory is refused nothing changes.
+/// Puts a row. Where memory is refused nothing changes.
 #[inline(always)]
 pub(crate) fn add<A: Allocator + Copy>(
     rows: &mut Rows<A>,
     key: NameKey<A>,
+    dentry: Option<Dentry>,
 ) -> Result<(), AllocError>
     ensures slots { OnOk result (slots_of rows.new.entries
-        ≡ put_name (slots_of rows.old.entries) key None) }
+        ≡ put_name (slots_of rows.old.entries) key dentry) }
     ensures unchanged { OnErr result (slots_of rows.new.entries ≡ slots_of rows.old.entries) }
 {
-    let _old = rows.insert(key, None)?;
+    let _old = rows.insert(key, dentry)?;
     Ok(())
 }
 
-/// Binds a name that has room, and gives what it was bound to.
+/// Binds a name if it has room, and gives what stood there. Where it has none nothing changes.
 pub(crate) fn bind<A: Allocator>(
     rows: &mut Rows<A>,
     directory: u64,
     name: &[u8],
     dentry: Dentry,
-) -> Option<Dentry>
-    requires { IsSome (get_name (slots_of rows.old.entries) (directory, name.now)) }
-    ensures old { result ≡ bound_in (get_name (slots_of rows.old.entries) (directory, name.now)) }
-    ensures slots { slots_of rows.new.entries ≡ put_name (slots_of rows.old.entries) (directory, name.now)
-        (Some dentry) }
+) -> Option<Option<Dentry>>
+    ensures stood { result ≡ get_name (slots_of rows.old.entries) (directory, name.now) }
+    ensures slots { IsSome result → slots_of rows.new.entries ≡ put_name (slots_of rows.old.entries)
+        (directory, name.now) (Some dentry) }
+    ensures absent { result ≡ None → slots_of rows.new.entries ≡ slots_of rows.old.entries }
 {
-    match rows.get_mut(LentKey {
+    let slot = rows.get_mut(LentKey {
         directory,
         front: front_of(name),
         name,
-    }) {
-        Some(slot) => slot.replace(dentry),
-        // Ruled out: the name has room.
-        None => None,
-    }
+    })?;
+    Some(slot.replace(dentry))
 }
 
 /// Takes the row of a name out, and gives its dentry.

@@ -72,13 +72,13 @@ fn bind_entry<Q: QueueTable<Purpose>, C: CountTable>(
         return Ok(());
     };
     let name = *name;
-    let Ok(()) = names.reserve(directory, name) else {
+    let Ok(was) = names.bind(directory, name, Some(entry.nodeid), until) else {
         return Err(Refusal::NoMemory);
     };
     let Ok(()) = nodes.count_lookup(entry) else {
+        names.restore(directory, name, was);
         return Err(Refusal::NoMemory);
     };
-    names.put(directory, name, Some(entry.nodeid), until);
     Ok(())
 }
 
