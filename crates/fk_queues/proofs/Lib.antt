@@ -1,4 +1,3 @@
-pub mod Entries
 pub mod Places
 pub mod Releases
 pub mod Requests

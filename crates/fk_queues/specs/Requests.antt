@@ -1,11 +1,10 @@
 -- Requests in order of queuing, which is that of their numbers, and the numbers of those unread.
-use Rattle.std.specs.Prelude.{◌≡◌, ℕ, ◌+◌, ◌<◌, List, [], ◌∷◌, Option, T, if◌then◌else◌, length}
+use Rattle.std.specs.Prelude.{◌≡◌, ℕ, ◌<◌, List, [], ◌∷◌, T, if◌then◌else◌}
 use Rattle.std.specs.Ordering.{nat_cmp}
 use Rattle.std.specs.FinMap.{is_sorted}
 use Rattle.std.specs.List.{All}
 use Rattle.fuse_spec.specs.declared.QueuedRequest.{QueuedRequest}
 use Rattle.fuse_spec.specs.Kernel.Queues.{is_unread}
-use Rattle.fuse_tables.specs.LiveRows.{live}
 
 -- the requests, and how many more fit with no memory
 pub record RequestsState (W : Type 0) : Type 0 where
@@ -22,9 +21,7 @@ abbrev pub unread_numbers : {W : Type 0} → List (ℕ × QueuedRequest W) → L
 unread_numbers [] = []
 unread_numbers (e ∷ es) = if is_unread e.1.mark then e.0 ∷ unread_numbers es else unread_numbers es
 
--- entries stand in rising number, this many of them are empty, and the numbers of those unread stand in the same order
-pub record AreRequests {W : Type 0} (entries : List (ℕ × Option (QueuedRequest W))) (empty : ℕ) (unread : List ℕ)
-    : Type 0 where
+-- requests stand in rising number, and the numbers of those unread stand in the same order
+pub record AreRequests {W : Type 0} (entries : List (ℕ × QueuedRequest W)) (unread : List ℕ) : Type 0 where
   pub sorted : T (is_sorted nat_cmp entries)
-  pub counted : empty + length (live entries) ≡ length entries
-  pub numbers : unread ≡ unread_numbers (live entries)
+  pub numbers : unread ≡ unread_numbers entries

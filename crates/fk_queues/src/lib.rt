@@ -24,23 +24,25 @@ pub use request_store::RequestStore;
 use std::alloc::Global;
 pub use table::QueueTable;
 
-/// The queues, with their requests in one map from number to request, in order of queuing.
+/// The queues, with their requests in a table under their numbers, which rise.
 ///
-/// What each call costs, for `n` requests pending and in processing. A step is a look-up by hash, in constant time on
-/// average. A search is one for a number among those of the pending requests, in log `n` time. Where it is there and goes,
-/// those on its shorter side move up: the oldest and the newest move no other.
+/// What each call costs, for `n` requests pending and in processing. A step is a look-up by number, in constant time for
+/// the oldest and the newest request, else in log `n` time. A search is one for a number among those of the pending
+/// requests, in log `n` time. Where it is there and goes, those on its shorter side move up: the oldest and the newest
+/// move no other.
 ///
 /// | Call | Time |
 /// |---|---|
 /// | `numbers_left`, `first_interrupt`, `forget`, `no_interrupts` | constant |
-/// | `enqueue`, `kept`, `waiting`, `pending(place)` | a step |
+/// | `enqueue` | constant, on the whole of many calls: at times one moves all requests |
+/// | `kept`, `waiting`, `pending(place)` | a step |
 /// | `read_pending(place)`, `interrupt` | two steps and a search |
 /// | `answer` | two steps, a search, and one pass over the queued INTERRUPTs |
 /// | `again` | a step, and one pass over the queued INTERRUPTs |
 /// | `read_interrupt` | the queued INTERRUPTs behind the first move up |
 /// | `first_forgets(count)`, `read_forgets(count)` | `count` steps |
-/// | `reserve` | constant where the room is there, else what `MapRequests` says, and a copy of what else grows |
-/// | `abort` | a step for each request that there was room for, and one for each forget |
+/// | `reserve` | constant where the room is there, else a copy of what grows |
+/// | `abort` | constant time for each request and each forget |
 ///
 /// A place among the pending requests is a promise of the contract, so their numbers leave no hole: that is what moves.
 pub type Queues<W, A = Global> = QueuesOf<W, MapRequests<W, A>>;
