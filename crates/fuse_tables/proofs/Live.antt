@@ -63,7 +63,7 @@ module _ {V : Type 0} where
   held None = None
   held (Some o) = o
 
-  below_live : (x : ℕ) (rows : List (ℕ × Option V)) → T (below_all nat_cmp x rows) → T (below_all nat_cmp x (live rows))
+  pub below_live : (x : ℕ) (rows : List (ℕ × Option V)) → T (below_all nat_cmp x rows) → T (below_all nat_cmp x (live rows))
   below_live x [] h = tt
   below_live x (row ∷ rows) h =
       let rest = below_live x rows (both_second _ _ h) in

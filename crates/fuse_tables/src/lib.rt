@@ -4,6 +4,7 @@
 
 mod late;
 mod list;
+mod listed;
 mod live_rows;
 mod queue;
 mod rising;

@@ -1,6 +1,6 @@
 //! A table from numbers to values, of which the oldest and the newest come and go.
 
-ghost use Rattle.std.specs.Prelude.{ℕ, Bool, ◌≡◌, ◌+◌, ◌<◌, ◌≤◌, ◌*◌, ◌^◌, [], IsSome, MatchOption, None, OnErr, OnOk, T, true};
+ghost use Rattle.std.specs.Prelude.{ℕ, Bool, ◌≡◌, ◌+◌, ◌<◌, ◌≤◌, ◌*◌, ◌^◌, [], IfOk, IsSome, MatchOption, None, OnErr, OnOk, T, true};
 ghost use Rattle.std.specs.Prelude.{if◌then◌else◌, is_some, length};
 ghost use Rattle.std.specs.Option.{option_copied};
 ghost use Rattle.std.specs.Ordering.{nat_cmp};
@@ -9,6 +9,7 @@ ghost use Rattle.fuse_spec.specs.Values.Maps.{get as value_at, put as with_value
 ghost use Rattle.fuse_tables.specs.KeyTests.{Tells, kept_by};
 
 use crate::late::{Late, put_value, replace_value, retain_values, take_value, value_of};
+use crate::listed::list_entries;
 use crate::live_rows::{Rows, find_live, is_above};
 use std::alloc::{AllocError, Allocator, Global};
 use std::collections::{BTreeMap, VecDeque};
@@ -34,6 +35,7 @@ use std::marker::Model;
 /// | `is_above` | one step |
 /// | `reserve` | one step, on the whole of many calls: at times one moves all rows |
 /// | `retain`, `clear` | `n` steps |
+/// | `list` | `n` steps, and log `n` for each entry that came late |
 #[derive(Drop)]
 pub struct RisingTable<V, A: Allocator = Global> {
     rows: Rows<V, A>,
@@ -65,6 +67,20 @@ fn twice_with(count: usize, more: usize) -> Option<usize>
 {
     let all = count.checked_add(more)?;
     all.checked_mul(2)
+}
+
+impl<V: Copy, A: Allocator + Copy> RisingTable<V, A> {
+    /// The entries in rising key.
+    ///
+    /// # Errors
+    ///
+    /// Out of memory for the list.
+    pub fn list(&self, alloc: A) -> Result<Vec<(u64, V), A>, AllocError>
+        ensures { IfOk result (λ list. list.items ≡ self.now.entries) }
+    {
+        let _ = &self.count;
+        list_entries(alloc, &self.rows, &self.late)
+    }
 }
 
 impl<V: Drop, A: Allocator + Copy> RisingTable<V, A> {
@@ -121,8 +137,9 @@ impl<V: Drop, A: Allocator + Copy> RisingTable<V, A> {
         Some(value)
     }
 
-    /// Memory holds fewer than 2^63 entries. A call without effect, made where a proof rests on that.
+    /// Keys rise, and memory holds fewer than 2^63 entries. A call without effect, made where a proof rests on that.
     pub fn lemma_sound(&self)
+        ensures sorted { T (is_sorted nat_cmp self.now.entries) }
         ensures few { length self.now.entries < 2 ^ 63 }
     {
         let _len = self.rows.len();
