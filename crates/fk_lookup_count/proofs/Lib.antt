@@ -1,4 +1,3 @@
 pub mod NumberMaps
 pub mod SlotLemmas
-pub mod TableLemmas
 pub mod LookupLemmas

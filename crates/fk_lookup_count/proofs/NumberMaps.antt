@@ -67,16 +67,6 @@ module _ {X : Type 0} where
       find-remove es k q ∙ ap (λ b. cond b None (find nat_cmp q es)) (sym (ties q k))
       ∙ ap (cond (eq_by_cmp nat_cmp q k) None) (sym (get-map_of es q)) ∙ sym (get-remove nat_cmp_total (map_of es) k q))
 
-  -- a map without a key that it has not
-  pub without_absent : (m : FinMap nat_cmp X) (k : ℕ) → get m k ≡ None → m ≡ without m k
-  without_absent m k none = same_map nat_cmp_total nat_cmp-IsAntisymmetric _ _ at
-    where
-      at : (q : ℕ) → get m q ≡ get (without m k) q
-      at q = elim (cases_eq q k) [
-        | inl e ↦ grind (arith, gets, e, none, rules)
-        | inr ne ↦ grind (arith, gets, ne, rules)
-      ]
-
   -- a map in which a key gets the value that it has
   pub insert_same : (m : FinMap nat_cmp X) (k : ℕ) (v : X) → get m k ≡ Some v → insert m k v ≡ m
   insert_same m k v there = same_map nat_cmp_total nat_cmp-IsAntisymmetric _ _ at

@@ -1,6 +1,7 @@
 -- The nodes in slots: a slot of count 0 is none.
 use Rattle.std.proofs.Common.{◌≡◌, ◌≢◌, ℕ, ◌<◌, ◌≤◌, Bool, true, false, cond, not, [], ◌∷◌, length, Option, Some, None, IsSome, is_some, refl, ap, sym, ◌∙◌, arith, rules, nat_eq, T, inl, inr}
 use Rattle.std.specs.Prelude.{nat_lt}
+use Rattle.std.specs.Option.{unwrap_or}
 use Rattle.std.specs.Ordering.{nat_cmp, eq_by_cmp}
 use Rattle.std.specs.Cmp.{nat_cmp_total}
 use Rattle.std.specs.FinMap.{FinMap, get as slot_of, insert, remove as without, empty, entries, entries_sorted, find, is_sorted, get-entries, get-insert, get-remove, get-empty, gets, nat_cmp-IsAntisymmetric}
@@ -9,8 +10,8 @@ use Rattle.std.proofs.lemmas.Bool.{cases_eq}
 use Rattle.std.proofs.lemmas.List.Sums.{length-filter, count_by-le-length}
 use Rattle.fuse_spec.specs.Values.Maps.{Map, get, put, remove}
 use Rattle.fuse_spec.specs.declared.Counted.{Counted}
-use Rattle.fk_lookup_count.specs.Slots.{is_node, nodes_among, nodes_in}
-use Rattle.fk_lookup_count.proofs.NumberMaps.{ties, both_first, both_second, find-remove, none-below, sorted-filter}
+use Rattle.fk_lookup_count.specs.Slots.{is_node, nodes_among, nodes_in, written}
+use Rattle.fk_lookup_count.proofs.NumberMaps.{ties, both_first, both_second, find-remove, insert_same, none-below, sorted-filter}
 
 abbrev pub Slots : Type 0
 Slots = FinMap nat_cmp Counted
@@ -149,3 +150,9 @@ pub room-remove : (s : Slots) (id other : ℕ) → other ≢ id → IsSome (slot
     → IsSome (slot_of (without s id) other)
 room-remove s id other apart some = (let h : slot_of (without s id) other
     ≡ slot_of s other = grind (arith, gets, apart, rules) in ap is_some h ∙ some)
+
+-- a slot that is written, or left as it is
+pub written_or : (s : Slots) (id : ℕ) (slot : Counted) (o : Option Counted) → slot_of s id ≡ Some slot
+    → insert s id (unwrap_or o slot) ≡ written s id o
+written_or s id slot None is = insert_same s id slot is
+written_or s id slot (Some more) is = refl

@@ -1,3 +1,2 @@
 pub mod CountedNodes
 pub mod Slots
-pub mod Table

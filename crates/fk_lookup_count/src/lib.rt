@@ -20,7 +20,7 @@ pub use list_slots::ListSlots;
 use std::alloc::Global;
 pub use unlike::Unlike;
 
-/// The kernel's table: a slab of nodes, and an ordered map from each id to its place there.
+/// The kernel's table: rows in rising id, and an ordered map of ids that came late.
 pub type KernelNodes<A = Global> = CountsOf<KernelSlots<A>>;
 
 /// The plain table: rows in rising id.

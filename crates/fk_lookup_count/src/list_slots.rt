@@ -1,6 +1,6 @@
 //! The plain slots, in a table.
 
-use crate::slots::{Slots, one_more};
+use crate::slots::{Slots, list_nodes, one_more};
 use fuse_spec::{Counted, NodeCount};
 use fuse_tables::Table;
 use std::alloc::{AllocError, Allocator, Global};
@@ -70,17 +70,7 @@ impl<A: Allocator + Copy> Slots for ListSlots<A> {
 
     fn nodes(&self, alloc: A) -> Result<Vec<NodeCount, A>, AllocError> {
         self.slots.lemma_sound();
-        let mut nodes = Vec::new(alloc);
-        for row in self.slots.rows() {
-            if row.1.count > 0 {
-                nodes.push(NodeCount {
-                    nodeid: row.0,
-                    generation: row.1.generation,
-                    count: row.1.count,
-                })?;
-            }
-        }
-        Ok(nodes)
+        list_nodes(alloc, self.slots.rows())
     }
 
     fn end(self) {}

@@ -5,7 +5,7 @@ ghost use Rattle.std.specs.Ordering.{nat_cmp};
 ghost use Rattle.std.specs.FinMap.{FinMap, get, insert, remove, empty, entries};
 ghost use Rattle.fuse_spec.specs.declared.Counted.{Counted};
 ghost use Rattle.fk_lookup_count.specs.CountedNodes.{listed_counts};
-ghost use Rattle.fk_lookup_count.specs.Slots.{nodes_in, slot_counted_more, slot_looked_up};
+ghost use Rattle.fk_lookup_count.specs.Slots.{nodes_among, nodes_in, slot_counted_more, slot_looked_up};
 
 use fuse_spec::{Counted, NodeCount};
 use std::alloc::{AllocError, Allocator};
@@ -91,4 +91,24 @@ pub(crate) fn one_more(slot: Counted, generation: u64) -> Option<Counted>
         count: slot.count + 1,
         ..slot
     })
+}
+
+/// Id, generation and count of each of these slots that holds a node, in their order.
+pub(crate) fn list_nodes<A: Allocator + Copy>(
+    alloc: A,
+    slots: &[(u64, Counted)],
+) -> Result<Vec<NodeCount, A>, AllocError>
+    ensures { IfOk result (λ nodes. nodes.items ≡ listed_counts (nodes_among slots.now)) }
+{
+    let mut nodes = Vec::new(alloc);
+    for row in slots {
+        if row.1.count > 0 {
+            nodes.push(NodeCount {
+                nodeid: row.0,
+                generation: row.1.generation,
+                count: row.1.count,
+            })?;
+        }
+    }
+    Ok(nodes)
 }

@@ -1,29 +1,17 @@
-use Rattle.std.proofs.Common.{ap, sym, subst, ◌∙◌, Some}
-use Rattle.std.specs.FinMap.{insert}
-use Rattle.slab.specs.Slab.{Updates, Slab}
+use Rattle.std.proofs.Common.{ap, sym, ◌∙◌}
+use Rattle.fuse_spec.specs.Values.Maps.{Map, get, put}
 use Rattle.fuse_spec.specs.declared.Counted.{Counted}
-use Rattle.fk_lookup_count.specs.Table.{IsCountTable}
-use Rattle.fk_lookup_count.proofs.TableLemmas.{table_of, kept-add, table-add}
+use Rattle.fk_lookup_count.proofs.NumberMaps.{map_of, get-map_of, map_of-put}
 use Rattle.fk_lookup_count.proofs.kernel_slots.KernelSlotsSlots.add.Goals as goal
 
-pub invariant_of-self-2 : goal.invariant_of-self-2
-invariant_of-self-2 g c =
-    let places = c.self.inside.places.entries in
-    let same = ap (λ (s : Slab Counted). s.slots) c.reserve.ensures.rest_kept in
-    let table = subst (λ slots. IsCountTable slots places) (sym same) c.self.invariant in
-    let key = c.insert_reserved-place.ensures.key ∙ sym c.vacant_key.ensures.value in
-    let updates = subst (λ place. Updates c.reserve.new.self c.insert_reserved-place.new.self place
-    (Some c.args.slot)) key c.insert_reserved-place.ensures.updates in
-    kept-add c.insert_reserved-place.new.self.slots c.put.new.places.entries c.args.id c.vacant_key.result c.args.slot table c.vacant_key.ensures.vacant c.in_ok-put.ensures.ok.0 updates.changed updates.others
+pub put-requires-clause-absent : goal.put-requires-clause-absent
+put-requires-clause-absent g c =
+    let old = c.self.inside.slots.entries in
+    let absent = sym (get-map_of old c.args.id) ∙ (rw (← c.self.view_is) at c.requires) in
+    ap (λ (es : Map Counted). get es c.args.id) c.reserve.ensures.entries ∙ absent
 
 pub returns-clause-ok : goal.returns-clause-ok
 returns-clause-ok g c =
-    let places = c.self.inside.places.entries in
-    let same = ap (λ (s : Slab Counted). s.slots) c.reserve.ensures.rest_kept in
-    let table = subst (λ slots. IsCountTable slots places) (sym same) c.self.invariant in
-    let key = c.insert_reserved-place.ensures.key ∙ sym c.vacant_key.ensures.value in
-    let updates = subst (λ place. Updates c.reserve.new.self c.insert_reserved-place.new.self place
-    (Some c.args.slot)) key c.insert_reserved-place.ensures.updates in
-    rw (← c.self.view_is)
-    (table-add c.insert_reserved-place.new.self.slots c.put.new.places.entries c.args.id c.vacant_key.result c.args.slot table c.vacant_key.ensures.vacant c.in_ok-put.ensures.ok.0 updates.changed updates.others
-    ∙ ap (λ slots. insert (table_of slots places) c.args.id c.args.slot) same)
+    let old = c.self.inside.slots.entries in
+    let entries = c.put.ensures.entries ∙ ap (λ (es : Map Counted). put es c.args.id c.args.slot) c.reserve.ensures.entries in
+    rw (← c.self.view_is) (ap map_of entries ∙ map_of-put old c.args.id c.args.slot)

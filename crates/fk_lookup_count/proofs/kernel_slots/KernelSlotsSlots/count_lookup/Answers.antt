@@ -1,49 +1,38 @@
-use Rattle.std.proofs.Common.{◌≡◌, ap, sym, ◌∙◌, Some}
-use Rattle.std.specs.Option.{option_map}
-use Rattle.std.specs.FinMap.{get}
-use Rattle.fk_lookup_count.specs.Slots.{slot_looked_up}
-use Rattle.fk_lookup_count.specs.Table.{standing}
-use Rattle.fk_lookup_count.proofs.TableLemmas.{table_of, get-table, no_slot_at, table-counted}
+use Rattle.std.proofs.Common.{ap, refl, sym, ◌∙◌}
+use Rattle.std.specs.FinMap.{insert}
+use Rattle.std.specs.Option.{option_copied_mut, unwrap_or}
+use Rattle.fk_lookup_count.specs.Slots.{slot_counted_more, slot_looked_up}
+use Rattle.fk_lookup_count.proofs.NumberMaps.{map_of, get-map_of, map_of-put}
+use Rattle.fk_lookup_count.proofs.SlotLemmas.{written_or}
 use Rattle.fk_lookup_count.proofs.kernel_slots.KernelSlotsSlots.count_lookup.Goals as goal
 
-pub returns-in_err-place-clause-stood : goal.returns-in_err-place-clause-stood
-returns-in_err-place-clause-stood g c =
-    let none = rw c.in_err-place.was at c.get.ensures.value in
-    rw (← c.self.view_is) (c.from_residual.ensures ∙ sym
-    (no_slot_at c.self.inside.nodes.slots c.self.inside.places.entries c.args.id (sym none)))
+pub returns-in_default-clause-stood : goal.returns-in_default-clause-stood
+returns-in_default-clause-stood g c =
+    let none = sym c.get_mut.ensures.value ∙ ap option_copied_mut c.in_default.is in
+    rw (← c.self.view_is) (sym (get-map_of c.self.inside.slots.entries c.args.id ∙ none))
 
-pub returns-in_err-place-clause-slots : goal.returns-in_err-place-clause-slots
-returns-in_err-place-clause-slots g c =
-    let slots = c.self.inside.nodes.slots in
-    let places = c.self.inside.places.entries in
-    let none = rw c.in_err-place.was at c.get.ensures.value in
-    rw (← c.self.view_is) (sym (ap (slot_looked_up (table_of slots places) c.args.id c.args.generation)
-    (no_slot_at slots places c.args.id (sym none))))
+pub returns-in_default-clause-slots : goal.returns-in_default-clause-slots
+returns-in_default-clause-slots g c =
+    let old = c.self.inside.slots.entries in
+    let none = get-map_of old c.args.id ∙ sym c.get_mut.ensures.value ∙ ap option_copied_mut c.in_default.is in
+    rw (← c.self.view_is) (sym (ap (slot_looked_up (map_of old) c.args.id c.args.generation) none))
 
-pub count_at-requires-clause-fits : goal.count_at-requires-clause-fits
-count_at-requires-clause-fits g c =
-    let slots = c.self.inside.nodes.slots in
-    let there = rw c.in_ok-place.was at c.get.ensures.value in
-    let stood : get c.args.self.now c.args.id ≡ Some (standing slots c.in_ok-place.field-0.now) =
-    rw (← c.self.view_is) (get-table slots c.self.inside.places.entries c.args.id ∙ ap (option_map (standing slots))
-    (sym there)) in
-    c.requires.fits _ stood
+pub one_more-requires : goal.one_more-requires
+one_more-requires g c =
+    let there = get-map_of c.self.inside.slots.entries c.args.id ∙ sym c.in-Some.ensures.value in
+    (rw (← c.self.view_is, there) at c.requires.fits) _ refl
 
 pub returns-clause-stood : goal.returns-clause-stood
 returns-clause-stood g c =
-    let slots = c.self.inside.nodes.slots in
-    let there = rw c.in_ok-place.was at c.get.ensures.value in
-    rw (← c.self.view_is) (ap Some c.count_at.ensures.stood ∙ sym
-    (get-table slots c.self.inside.places.entries c.args.id ∙ ap (option_map (standing slots)) (sym there)))
+    rw (← c.self.view_is) (c.in-Some.ensures.value ∙ sym (get-map_of c.self.inside.slots.entries c.args.id))
 
 pub returns-clause-slots : goal.returns-clause-slots
 returns-clause-slots g c =
-    let slots = c.self.inside.nodes.slots in
-    let places = c.self.inside.places.entries in
-    let there = rw c.in_ok-place.was at c.get.ensures.value in
-    let stood : get (table_of slots places) c.args.id ≡ Some c.count_at.result =
-    get-table slots places c.args.id ∙ ap (option_map (standing slots)) (sym there)
-    ∙ sym (ap Some c.count_at.ensures.stood) in
-    rw (← c.self.view_is) (table-counted c.count_at.new.nodes.slots c.args.id c.in_ok-place.field-0.now
-    c.args.generation c.count_at.result c.self.invariant (sym there) stood c.count_at.ensures.counted.changed
-    c.count_at.ensures.counted.others)
+    let old = c.self.inside.slots.entries in
+    let stood = c.in-Some.slot.now in
+    let there = get-map_of old c.args.id ∙ sym c.in-Some.ensures.value in
+    rw (← c.self.view_is) (map_of-put old c.args.id c.unwrap_or.result
+    ∙ ap (insert (map_of old) c.args.id) c.unwrap_or.ensures
+    ∙ ap (λ more. insert (map_of old) c.args.id (unwrap_or more stood)) c.one_more.ensures
+    ∙ written_or (map_of old) c.args.id stood (slot_counted_more c.args.generation stood) there
+    ∙ ap (slot_looked_up (map_of old) c.args.id c.args.generation) (sym there))
