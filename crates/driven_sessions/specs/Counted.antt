@@ -52,7 +52,7 @@ HasNoneBehind (releases_none unlisted) = Unit {0}
 HasNoneBehind (releases head below before after directory is apart bytes own log went) = ⊥
 
 -- The next two: each request that is read is the kernel's and is sent, and each frame that is received is for the kernel, and none
--- agrees on a version between 7.15 and 7.31.
+-- agrees on a version from 7.12 to 7.30 but 7.15.
 abbrev pub IsPlainStep : {old : Driven} {log : List Transfer} {new : Driven} → DriveStep old log new → Type 0
 IsPlainStep (alone kernel acts) = Unit {0}
 IsPlainStep (reads idles pick may request is) = Unit {0}
@@ -71,7 +71,7 @@ AreLookupsSame k s = (node : ℕ) → 2 ≤ node
     → counted (get k.nodes node) + forgotten node k.queues.forgets ≡ most_count s node
 
 -- So it is while the mount is live and no request is on its way to the device, where moreover the session has as refused what the
--- kernel refused.
+-- kernel refused, and is judged to its end, by agreements that carry the codec's frames.
 abbrev pub CountsSame : {old : Driven} {log : List Transfer} {new : Driven} → Drives old log new → Type 0
 CountsSame {log = log} {new = new} run = (ts : List Said) → AreSaid log ts → (k : Known) (s : Session)
     (is : IsSession (said.SeveralReaders ∷ ts) k s)

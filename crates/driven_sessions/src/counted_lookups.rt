@@ -10,8 +10,8 @@ pub fn lookups_are_counted()
 {}
 
 /// Each node is counted in the session exactly as often as the kernel counts it or has to forget it, in one mount, while it is
-/// live: where each request is the kernel's and is sent, each frame received is for it, and the session has as accepted what the
-/// kernel accepted, and no more.
+/// live: where each request is the kernel's and is sent, each frame received is for it, the session has as accepted what the
+/// kernel accepted, and no more, and it is judged to its end, by agreements that carry the codec's frames.
 pub fn lookups_are_the_same()
     ensures { LookupsAreSame }
 {}

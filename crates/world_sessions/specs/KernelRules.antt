@@ -20,7 +20,7 @@ pub record IsDrivenTo (mounts : ℕ) (log : List Transfer) (kernel : Kernel) : T
   pub idles : new.turn ≡ idle
   pub rules : KeepsRulesIn run
 
--- In every run of the world, however its messages are spelled.
+-- In every run of the world, however its messages are spelled, but that no GETATTR names an open file.
 abbrev pub KernelKeepsRules : Type 0
 KernelKeepsRules = (mounts : ℕ) (log : List Transfer) (w : World) → HasTransfers mounts log w → IsDrivenTo mounts log w.kernel
 

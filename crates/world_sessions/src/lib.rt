@@ -14,7 +14,8 @@ pub fn kernel_keeps_rules()
 {}
 
 /// Where a world is at rest, each session of it counts each node exactly as often as the kernel does, and as the server does: in one
-/// mount, where the session has of each reply what the kernel made of it.
+/// mount, where the session has of each reply what the kernel made of it, and is judged to its end, by agreements that carry the
+/// codec's frames.
 pub fn counts_at_rest()
     ensures { CountsAtRest }
 {}
