@@ -13,7 +13,11 @@ use std::test::Fail;
 enum Row {
     Reserve(u64, &'static str),
     /// Room is made and a name bound, until a time.
+    Put(u64, &'static str, Option<u64>, u64),
+    /// A name is bound, until a time: it gives what the name was bound to.
     Bind(u64, &'static str, Option<u64>, u64),
+    /// A name is bound, and then restored to what it was bound to.
+    Undo(u64, &'static str),
     /// A name is removed: whether it was bound.
     Remove(u64, &'static str, bool),
     Clear,
@@ -27,7 +31,7 @@ enum Row {
     First(Option<(u64, &'static str)>),
 }
 
-fn bind<A: Allocator + Copy>(
+fn put<A: Allocator + Copy>(
     names: &mut Bindings<A>,
     directory: u64,
     name: &[u8],
@@ -36,6 +40,16 @@ fn bind<A: Allocator + Copy>(
 ) -> Result<(), AllocError> {
     names.reserve(directory, name)?;
     names.put(directory, name, target, until);
+    Ok(())
+}
+
+fn bind_and_restore<A: Allocator + Copy>(
+    names: &mut Bindings<A>,
+    directory: u64,
+    name: &[u8],
+) -> Result<(), AllocError> {
+    let was = names.bind(directory, name, Some(6), 3000)?;
+    names.restore(directory, name, was);
     Ok(())
 }
 
@@ -61,6 +75,14 @@ fn is_first<A: Allocator + Copy>(names: &Bindings<A>, wanted: Option<(u64, &str)
     }
 }
 
+/// What binding a name results in, which was bound so before.
+fn bound_from(bound: Result<Option<Dentry>, AllocError>, before: Option<Dentry>) -> Outcome {
+    match bound {
+        Ok(was) => judged(was == before),
+        Err(AllocError) => Outcome::NoMemory,
+    }
+}
+
 /// What making room results in.
 fn reserved(outcome: Result<(), AllocError>) -> Outcome {
     match outcome {
@@ -73,8 +95,15 @@ impl<A: Allocator + Copy> Tried<Row, A> for Bindings<A> {
     fn attempt(&mut self, _heap: A, _alloc: Global, row: Row) -> Outcome {
         match row {
             Row::Reserve(directory, name) => reserved(self.reserve(directory, name.as_bytes())),
+            Row::Put(directory, name, target, until) => {
+                reserved(put(self, directory, name.as_bytes(), target, until))
+            }
             Row::Bind(directory, name, target, until) => {
-                reserved(bind(self, directory, name.as_bytes(), target, until))
+                let before = self.bound(directory, name.as_bytes());
+                bound_from(self.bind(directory, name.as_bytes(), target, until), before)
+            }
+            Row::Undo(directory, name) => {
+                reserved(bind_and_restore(self, directory, name.as_bytes()))
             }
             Row::Remove(directory, name, was_bound) => {
                 judged(self.remove(directory, name.as_bytes()) == was_bound)
@@ -95,7 +124,7 @@ impl<A: Allocator + Copy> Tried<Row, A> for Bindings<A> {
     }
 }
 
-static CALLS: [Row; 40] = [
+static CALLS: [Row; 46] = [
     Row::Find(1, "a", 0, Found::Unknown),
     Row::First(None),
     Row::Bound(1, "a", None),
@@ -115,8 +144,15 @@ static CALLS: [Row; 40] = [
     Row::Find(1, "b", 999, Found::Missing),
     Row::Find(2, "a", 0, Found::Unknown),
     Row::Find(1, "aa", 0, Found::Unknown),
-    Row::Bind(1, "b", Some(3), 0),
-    Row::Bind(4, "a", None, 0),
+    Row::Put(1, "b", Some(3), 0),
+    Row::Put(4, "a", None, 0),
+    Row::Named(0b1_1010),
+    // restored, a name is bound as it was, or not at all
+    Row::Undo(1, "a"),
+    Row::Undo(2, "new"),
+    Row::Find(1, "a", 999, Found::Node(3)),
+    Row::Find(1, "a", 1000, Found::Unknown),
+    Row::Bound(2, "new", None),
     Row::Named(0b1_1010),
     Row::Bind(1, "a", Some(5), 2000),
     Row::Find(1, "a", 1000, Found::Node(5)),

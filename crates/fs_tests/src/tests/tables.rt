@@ -165,6 +165,24 @@ fn change_in_place<A: Allocator + Copy>(alloc: A) -> Result<([Option<u64>; 8], u
     Ok((changed, unchanged))
 }
 
+/// How many entries the list of a table has, if their keys rise and each has its key as its value.
+fn count_listed<A: Allocator + Copy>(alloc: A) -> Result<Option<usize>, AllocError> {
+    let mut table = RisingTable::new(alloc);
+    let put = put_with_gaps(&mut table);
+    let listed = table.list(alloc);
+    drop(table);
+    put?;
+    let listed = listed?;
+    let mut last = 0;
+    for (key, value) in &listed {
+        if *key <= last || value != key {
+            return Ok(None);
+        }
+        last = *key;
+    }
+    Ok(Some(listed.len()))
+}
+
 #[test]
 fn keys_in_any_order_are_found(rt: HostRuntime) -> Result<(), Fail> {
     assert!(rt; fill(rt.alloc())? == [100, 100, 100, 0]);
@@ -197,6 +215,13 @@ fn values_are_changed_in_place(rt: HostRuntime) -> Result<(), Fail> {
             ]
     );
     assert!(rt; unchanged == 34);
+    Ok(())
+}
+
+/// One of the 39 keys came late.
+#[test]
+fn entries_are_listed_in_rising_key(rt: HostRuntime) -> Result<(), Fail> {
+    assert!(rt; count_listed(rt.alloc())? == Some(39));
     Ok(())
 }
 
