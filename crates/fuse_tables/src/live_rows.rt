@@ -10,7 +10,7 @@ ghost use Rattle.fuse_spec.specs.Values.Maps.{get as value_at, put as with_value
 ghost use Rattle.fuse_tables.specs.LiveRows.{live};
 ghost use Rattle.fuse_tables.specs.TableState.{IsRowOf, place_of};
 
-use crate::rows_by_key::{find_row, is_row_of, place_in};
+use crate::rows_by_key::{find_row, is_row_of, place_in, row_ahead};
 use std::alloc::Allocator;
 use std::collections::VecDeque;
 
@@ -56,20 +56,14 @@ pub(crate) fn find_live<V, A: Allocator>(rows: &Rows<V, A>, key: u64) -> Option<
     }
 }
 
-/// The value at a key. Where the row stands at one of the two places at which `find_row` looks first, the value is read
-/// there at once.
+/// The value at a key. Where `find_row` finds the row without a search, the value is read there at once.
 #[inline(always)]
 pub(crate) fn value_in<V, A: Allocator>(rows: &Rows<V, A>, key: u64) -> Option<&V>
     requires { T (is_sorted nat_cmp rows.now.items) }
     ensures { option_copied result ≡ value_at (live rows.now.items) key }
 {
-    let first = rows.front()?;
-    let ahead = key.wrapping_sub(first.0);
-    if ahead < rows.len() as u64 {
-        let row = &rows[ahead as usize];
-        if row.0 == key {
-            return row.1.as_ref();
-        }
+    if let Some(place) = row_ahead(rows, key) {
+        return rows[place].1.as_ref();
     }
     if let Some(last) = rows.back() {
         if last.0 == key {

@@ -30,7 +30,7 @@ use std::marker::Model;
 ///
 /// | Call | Time |
 /// |---|---|
-/// | `get`, `get_mut`, `replace`, `remove` | log `n` steps, or where no key came late, one at either end or without gaps |
+/// | `get`, `get_mut`, `replace`, `remove` | log `n` steps; one at either end, or where keys rose by one or two and none came late |
 /// | `put` | log `n` steps, or one for a key above all, on the whole of many calls: at times one moves all rows |
 /// | `is_above` | one step |
 /// | `reserve` | one step, on the whole of many calls: at times one moves all rows |

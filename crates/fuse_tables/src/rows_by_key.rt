@@ -1,6 +1,6 @@
 //! Where a key stands among rows in rising key.
 
-ghost use Rattle.std.specs.Prelude.{◌≡◌, ◌≤◌, MatchOption, None, T, false, true};
+ghost use Rattle.std.specs.Prelude.{◌≡◌, ◌≤◌, IfSome, MatchOption, None, T, false, true};
 ghost use Rattle.std.specs.Ordering.{nat_cmp};
 ghost use Rattle.std.specs.FinMap.{is_sorted};
 ghost use Rattle.std.specs.VecDeque.{deque_len};
@@ -39,26 +39,53 @@ pub(crate) fn is_row_of<V, A: Allocator>(
     row.0 == key
 }
 
-/// Where the row of a key stands. The place that is as far behind the first row as the key is above that row's is looked
-/// at first: each row stands there if keys have no gaps, and the first row always does. Then the last row is looked at,
-/// and then all are searched.
+/// Where the row of a key stands, if it stands there.
+#[inline(always)]
+pub(crate) fn row_there<V, A: Allocator>(
+    rows: &VecDeque<(u64, V), A>,
+    key: u64,
+    place: u64,
+) -> Option<usize>
+    requires { T (is_sorted nat_cmp rows.now.items) }
+    ensures { IfSome result (IsRowOf rows.now.items key) }
+{
+    if place >= rows.len() as u64 {
+        return None;
+    }
+    let there = place as usize;
+    let row = &rows[there];
+    if row.0 == key { Some(there) } else { None }
+}
+
+/// Where the row of a key stands, if that is as far behind the first row as the key is above that row's, or half as far: so
+/// each row stands whose keys have no gaps, or rise by two.
+#[inline(always)]
+pub(crate) fn row_ahead<V, A: Allocator>(rows: &VecDeque<(u64, V), A>, key: u64) -> Option<usize>
+    requires { T (is_sorted nat_cmp rows.now.items) }
+    ensures { IfSome result (IsRowOf rows.now.items key) }
+{
+    let Some(first) = rows.front() else {
+        return None;
+    };
+    let ahead = key.wrapping_sub(first.0);
+    if let Some(place) = row_there(rows, key, ahead) {
+        return Some(place);
+    }
+    row_there(rows, key, ahead / 2)
+}
+
+/// Where the row of a key stands. The first row is looked at first, with those at the places that `row_ahead` says. Then the
+/// last row is looked at, and then all are searched.
 #[inline(always)]
 pub fn find_row<V, A: Allocator>(rows: &VecDeque<(u64, V), A>, key: u64) -> Option<usize>
     requires { T (is_sorted nat_cmp rows.now.items) }
     ensures { MatchOption result (value_at rows.now.items key ≡ None) (IsRowOf rows.now.items key) }
 {
+    if let Some(place) = row_ahead(rows, key) {
+        return Some(place);
+    }
     let len = rows.len();
-    if len == 0 {
-        return None;
-    }
-    let ahead = key.wrapping_sub(rows[0].0);
-    if ahead < len as u64 {
-        let there = ahead as usize;
-        if rows[there].0 == key {
-            return Some(there);
-        }
-    }
-    if rows[len - 1].0 == key {
+    if len > 0 && rows[len - 1].0 == key {
         return Some(len - 1);
     }
     let place = place_in(rows, key);
