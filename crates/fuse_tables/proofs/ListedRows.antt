@@ -1,5 +1,5 @@
 -- Rows and late values, listed in rising key: what one late value more puts last into the list.
-use Rattle.std.proofs.Common.{◌≡◌, ℕ, zero, suc, ◌<◌, ◌≤◌, Bool, true, false, cond, List, [], ◌∷◌, ◌++◌, take, drop, length, Option, Some, None, is_some, refl, sym, ap, subst, ◌∙◌, arith, T, Less, Equal, Greater, true≢false, inl, inr, ◌==◌}
+use Rattle.std.proofs.Common.{◌≡◌, ℕ, zero, suc, ◌<◌, ◌≤◌, Bool, true, false, cond, List, [], ◌∷◌, ◌++◌, take, drop, Option, Some, None, is_some, refl, sym, ap, subst, ◌∙◌, arith, T, Less, Equal, Greater, true≢false, inl, inr, ◌==◌}
 use Rattle.std.specs.Prelude.{nat_lt}
 use Rattle.std.specs.BTreeMap.{is_at}
 use Rattle.std.specs.Cmp.{nat_cmp_is}
@@ -16,7 +16,7 @@ use Rattle.fuse_spec.specs.Values.Maps.{get, put}
 use Rattle.fuse_tables.specs.LateValues.{AreKept, late_at, with_late, entries_of}
 use Rattle.fuse_tables.specs.LiveRows.{entry_before, live}
 use Rattle.fuse_tables.specs.TableState.{place_of}
-use Rattle.fuse_tables.proofs.Rows.{both_first, both_second, less_lower, apart, tied}
+use Rattle.fuse_tables.proofs.Rows.{both_first, both_second, less_lower, tied}
 use Rattle.fuse_tables.proofs.Live.{below_live, both, ties}
 use Rattle.fuse_tables.proofs.LateEntries.{row_none}
 

@@ -62,8 +62,8 @@ pub(crate) fn value_in<V, A: Allocator>(rows: &Rows<V, A>, key: u64) -> Option<&
     requires { T (is_sorted nat_cmp rows.now.items) }
     ensures { option_copied result ≡ value_at (live rows.now.items) key }
 {
-    if let Some(place) = row_ahead(rows, key) {
-        return rows[place].1.as_ref();
+    if let Some((_, row)) = row_ahead(rows, key) {
+        return row.1.as_ref();
     }
     if let Some(last) = rows.back() {
         if last.0 == key {

@@ -30,7 +30,7 @@ use std::marker::Model;
 ///
 /// | Call | Time |
 /// |---|---|
-/// | `get`, `get_mut`, `replace`, `remove` | log `n` steps; one at either end, or where keys rose by one or two and none came late |
+/// | `get`, `get_mut`, `replace`, `remove` | log `n` steps; one at either end, or where no key came late and those of the rows have no gaps, or rise by two |
 /// | `put` | log `n` steps, or one for a key above all, on the whole of many calls: at times one moves all rows |
 /// | `is_above` | one step |
 /// | `reserve` | one step, on the whole of many calls: at times one moves all rows |
@@ -157,12 +157,23 @@ impl<V: Drop, A: Allocator + Copy> RisingTable<V, A> {
         ensures kept { self.old.room ≤ self.new.room }
         ensures refused { OnErr result (self.old.room < more) }
     {
+        if more <= self.rows.capacity() / 2 - self.count {
+            return Ok(());
+        }
+        self.grow(more)
+    }
+
+    /// Makes room for this many more entries, for which rows lack.
+    #[cold]
+    fn grow(&mut self, more: usize) -> Result<(), AllocError>
+        requires { self.old.room < more }
+        ensures entries { self.new.entries ≡ self.old.entries }
+        ensures room { OnOk result (more ≤ self.new.room) }
+        ensures kept { self.old.room ≤ self.new.room }
+    {
         let Some(rows) = twice_with(self.count, more) else {
             return Err(AllocError);
         };
-        if rows <= self.rows.capacity() {
-            return Ok(());
-        }
         // Half more than is asked for, or twice what there was.
         let grown = rows.saturating_add(rows / 2);
         self.rows.reserve(grown.saturating_sub(self.rows.len()))

@@ -1,6 +1,6 @@
 //! Where a key stands among rows in rising key.
 
-ghost use Rattle.std.specs.Prelude.{◌≡◌, ◌≤◌, IfSome, MatchOption, None, T, false, true};
+ghost use Rattle.std.specs.Prelude.{◌≡◌, ◌≤◌, IfSome, MatchOption, None, T, false, slice_index_or, true};
 ghost use Rattle.std.specs.Ordering.{nat_cmp};
 ghost use Rattle.std.specs.FinMap.{is_sorted};
 ghost use Rattle.std.specs.VecDeque.{deque_len};
@@ -39,37 +39,44 @@ pub(crate) fn is_row_of<V, A: Allocator>(
     row.0 == key
 }
 
-/// Where the row of a key stands, if it stands there.
+/// The row of a key and where it stands, if it stands there.
 #[inline(always)]
-pub(crate) fn row_there<V, A: Allocator>(
+fn row_there<V, A: Allocator>(
     rows: &VecDeque<(u64, V), A>,
     key: u64,
     place: u64,
-) -> Option<usize>
+) -> Option<(usize, &(u64, V))>
     requires { T (is_sorted nat_cmp rows.now.items) }
-    ensures { IfSome result (IsRowOf rows.now.items key) }
+    ensures { IfSome result (λ found. IsRowOf rows.now.items key found.0
+        × (found.1.now ≡ slice_index_or rows.now.items found.0 found.1.now)) }
 {
     if place >= rows.len() as u64 {
         return None;
     }
     let there = place as usize;
     let row = &rows[there];
-    if row.0 == key { Some(there) } else { None }
+    if row.0 == key {
+        Some((there, row))
+    } else {
+        None
+    }
 }
 
-/// Where the row of a key stands, if that is as far behind the first row as the key is above that row's, or half as far: so
-/// each row stands whose keys have no gaps, or rise by two.
+/// The row of a key and where it stands, if that is as far behind the first row as the key is above that row's, or half as
+/// far: so each row stands whose keys have no gaps, or rise by two.
 #[inline(always)]
-pub(crate) fn row_ahead<V, A: Allocator>(rows: &VecDeque<(u64, V), A>, key: u64) -> Option<usize>
+pub(crate) fn row_ahead<V, A: Allocator>(
+    rows: &VecDeque<(u64, V), A>,
+    key: u64,
+) -> Option<(usize, &(u64, V))>
     requires { T (is_sorted nat_cmp rows.now.items) }
-    ensures { IfSome result (IsRowOf rows.now.items key) }
+    ensures { IfSome result (λ found. IsRowOf rows.now.items key found.0
+        × (found.1.now ≡ slice_index_or rows.now.items found.0 found.1.now)) }
 {
-    let Some(first) = rows.front() else {
-        return None;
-    };
+    let first = rows.front()?;
     let ahead = key.wrapping_sub(first.0);
-    if let Some(place) = row_there(rows, key, ahead) {
-        return Some(place);
+    if let Some(found) = row_there(rows, key, ahead) {
+        return Some(found);
     }
     row_there(rows, key, ahead / 2)
 }
@@ -81,7 +88,7 @@ pub fn find_row<V, A: Allocator>(rows: &VecDeque<(u64, V), A>, key: u64) -> Opti
     requires { T (is_sorted nat_cmp rows.now.items) }
     ensures { MatchOption result (value_at rows.now.items key ≡ None) (IsRowOf rows.now.items key) }
 {
-    if let Some(place) = row_ahead(rows, key) {
+    if let Some((place, _)) = row_ahead(rows, key) {
         return Some(place);
     }
     let len = rows.len();

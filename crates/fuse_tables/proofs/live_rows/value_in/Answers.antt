@@ -5,8 +5,8 @@ use Rattle.fuse_tables.proofs.live_rows.value_in.Goals as goal
 
 pub returns-in-Some : goal.returns-in-Some
 returns-in-Some g c =
-    c.as_ref.ensures.value ∙ value_at_row c.args.rows.now.items c.args.key _ c.index.result.now c.requires
-    c.in-Some.ensures c.index.ensures
+    c.as_ref.ensures.value ∙ value_at_row c.args.rows.now.items c.args.key _ c.in-Some.row.now c.requires
+    c.in-Some.ensures.0 c.in-Some.ensures.1
 
 pub returns-then-last-key : goal.returns-then-last-key
 returns-then-last-key g c =
