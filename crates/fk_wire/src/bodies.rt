@@ -18,6 +18,7 @@ use crate::pairs::Pairs;
 use crate::request::RequestBody;
 use crate::room::{put_bytes, put_name, put_two_u32, put_two_u64, put_u32, put_u64};
 use crate::shapes::{fixed, one_name, two_names, with_bytes, with_pairs};
+use byteorder::{ByteOrder, LittleEndian};
 use fk_fields::{is_name, u32_at, u64_at};
 use std::alloc::Allocator;
 
@@ -250,10 +251,11 @@ fn put_range<A: Allocator>(out: &mut Vec<u8, A>, fh: u64, offset: u64, size: u32
     ensures capacity { vec_capacity out.old ≤ vec_capacity out.new }
     ensures fits { InRange (range fh offset size) }
 {
-    put_two_u64(out, fh, offset);
-    put_two_u32(out, size, 0);
-    put_u64(out, 0);
-    put_two_u32(out, 0, 0);
+    let mut buf = [0u8; 40];
+    LittleEndian::write_u64(&mut buf, fh);
+    LittleEndian::write_u64(&mut buf[8..], offset);
+    LittleEndian::write_u32(&mut buf[16..], size);
+    put_bytes(out, &buf);
 }
 
 /// Each a `struct fuse_forget_one`.
@@ -263,8 +265,7 @@ fn put_pairs<A: Allocator>(out: &mut Vec<u8, A>, pairs: Pairs<'_>)
     ensures fits { InRange (forget_ones (pairs_in pairs.entry)) }
 {
     'pairs: for (nodeid, nlookup) in pairs {
-        put_u64(out, nodeid);
-        put_u64(out, nlookup);
+        put_two_u64(out, nodeid, nlookup);
     }
 }
 
@@ -274,8 +275,7 @@ fn put_getattr<A: Allocator>(out: &mut Vec<u8, A>)
     requires { vec_len out.old + 16 ≤ vec_capacity out.old }
     ensures { out.new.items ≡ out.old.items ++ spellings (request_body getattr) }
 {
-    put_two_u32(out, 0, 0);
-    put_u64(out, 0);
+    put_two_u64(out, 0, 0);
 }
 
 /// A `struct fuse_mkdir_in`, and the name.
@@ -284,8 +284,7 @@ fn put_mkdir<A: Allocator>(out: &mut Vec<u8, A>, name: &[u8])
     requires { vec_len out.old + (8 + (length name.now + 1)) ≤ vec_capacity out.old }
     ensures { out.new.items ≡ out.old.items ++ spellings (request_body (mkdir name.now)) }
 {
-    put_u32(out, 493);
-    put_u32(out, 0);
+    put_two_u32(out, 493, 0);
     put_name(out, name);
 }
 
@@ -307,8 +306,7 @@ fn put_release<A: Allocator>(out: &mut Vec<u8, A>, fh: u64)
     ensures { out.new.items ≡ out.old.items ++ spellings (request_body (release fh)) }
 {
     put_u64(out, fh);
-    put_u32(out, 0);
-    put_u32(out, 0);
+    put_two_u32(out, 0, 0);
     put_u64(out, 0);
 }
 
@@ -332,10 +330,8 @@ fn put_create<A: Allocator>(out: &mut Vec<u8, A>, name: &[u8])
     requires { vec_len out.old + (16 + (length name.now + 1)) ≤ vec_capacity out.old }
     ensures { out.new.items ≡ out.old.items ++ spellings (request_body (create name.now)) }
 {
-    put_u32(out, 0);
-    put_u32(out, 33188);
-    put_u32(out, 0);
-    put_u32(out, 0);
+    put_two_u32(out, 0, 33188);
+    put_two_u32(out, 0, 0);
     put_name(out, name);
 }
 

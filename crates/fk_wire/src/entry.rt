@@ -1,11 +1,12 @@
 //! Entries and attributes.
 
 ghost use Rattle.std.specs.Prelude.{◌≡◌, ◌≤◌, ◌+◌, ◌++◌, ◌↔◌, [], length, IsTrue, vec_len, vec_capacity};
-ghost use Rattle.fk_wire.specs.Fields.{InRange, number_at, spellings};
+ghost use Rattle.fk_wire.specs.Fields.{InRange, bytes_of, number_at, spellings};
 ghost use Rattle.fk_wire.specs.Entries.{attr_fields, entry_fields, entry_content, IsEntry};
 ghost use Rattle.fk_wire.specs.Entries.{attr_at as attributes_at, entry_at as entry_content_at};
 
-use crate::room::{put_two_u32, put_two_u64, put_zeros88};
+use crate::room::{put_bytes, put_zeros88};
+use byteorder::{ByteOrder, LittleEndian};
 use fk_fields::{u32_at, u64_at};
 use std::alloc::Allocator;
 
@@ -84,7 +85,28 @@ pub(crate) fn is_timed(entry: &Entry) -> bool
     entry.entry_valid_nsec <= 999_999_999
 }
 
-#[tactic(auto, using(std::proofs::Common::append_assoc))]
+/// The fields of attributes.
+#[inline(always)]
+fn put_fields<A: Allocator>(out: &mut Vec<u8, A>, ino: u64, size: u64, mode: u32, nlink: u32)
+    requires { vec_len out.old + 88 ≤ vec_capacity out.old }
+    ensures items { out.new.items ≡ out.old.items ++ spellings (attr_fields (record {
+      ino = ino;
+      size = size;
+      mode = mode;
+      nlink = nlink;
+    }) []) }
+    ensures len { vec_len out.new ≡ vec_len out.old + 88 }
+    ensures capacity { vec_capacity out.old ≤ vec_capacity out.new }
+{
+    let mut buf = [0u8; 88];
+    LittleEndian::write_u64(&mut buf, ino);
+    LittleEndian::write_u64(&mut buf[8..], size);
+    LittleEndian::write_u32(&mut buf[60..], mode);
+    LittleEndian::write_u32(&mut buf[64..], nlink);
+    LittleEndian::write_u32(&mut buf[80..], 4096);
+    put_bytes(out, &buf);
+}
+
 pub(crate) fn put_attr<A: Allocator>(out: &mut Vec<u8, A>, attr: &Attr)
     requires { vec_len out.old + 88 ≤ vec_capacity out.old }
     ensures items { out.new.items ≡ out.old.items ++ spellings (attr_fields attr.now []) }
@@ -92,14 +114,24 @@ pub(crate) fn put_attr<A: Allocator>(out: &mut Vec<u8, A>, attr: &Attr)
     ensures capacity { vec_capacity out.old ≤ vec_capacity out.new }
     ensures fits { InRange (attr_fields attr.now []) }
 {
-    put_two_u64(out, attr.ino, attr.size);
-    put_two_u64(out, 0, 0);
-    put_two_u64(out, 0, 0);
-    put_two_u32(out, 0, 0);
-    put_two_u32(out, 0, attr.mode);
-    put_two_u32(out, attr.nlink, 0);
-    put_two_u32(out, 0, 0);
-    put_two_u32(out, 4096, 0);
+    put_fields(out, attr.ino, attr.size, attr.mode, attr.nlink);
+}
+
+/// What an entry begins with: its node and the node's generation, and for how long its name is valid.
+#[inline(always)]
+fn put_node<A: Allocator>(out: &mut Vec<u8, A>, nodeid: u64, generation: u64, valid: u64, nsec: u32)
+    requires { vec_len out.old + 40 ≤ vec_capacity out.old }
+    ensures items { out.new.items ≡ out.old.items ++ (bytes_of 8 nodeid ++ bytes_of 8 generation ++ bytes_of 8 valid
+        ++ bytes_of 8 0 ++ bytes_of 4 nsec ++ bytes_of 4 0) }
+    ensures len { vec_len out.new ≡ vec_len out.old + 40 }
+    ensures capacity { vec_capacity out.old ≤ vec_capacity out.new }
+{
+    let mut buf = [0u8; 40];
+    LittleEndian::write_u64(&mut buf, nodeid);
+    LittleEndian::write_u64(&mut buf[8..], generation);
+    LittleEndian::write_u64(&mut buf[16..], valid);
+    LittleEndian::write_u32(&mut buf[32..], nsec);
+    put_bytes(out, &buf);
 }
 
 #[tactic(auto, using(std::proofs::Common::append_assoc))]
@@ -110,15 +142,12 @@ pub(crate) fn put_entry<A: Allocator>(out: &mut Vec<u8, A>, entry: &Entry)
     ensures capacity { vec_capacity out.old ≤ vec_capacity out.new }
     ensures fits { InRange (entry_fields (entry_content entry.now) []) }
 {
+    let (valid, nsec) = (entry.entry_valid, entry.entry_valid_nsec);
     if entry.nodeid == 0 {
-        put_two_u64(out, 0, 0);
-        put_two_u64(out, entry.entry_valid, 0);
-        put_two_u32(out, entry.entry_valid_nsec, 0);
+        put_node(out, 0, 0, valid, nsec);
         put_zeros88(out);
     } else {
-        put_two_u64(out, entry.nodeid, entry.generation);
-        put_two_u64(out, entry.entry_valid, 0);
-        put_two_u32(out, entry.entry_valid_nsec, 0);
+        put_node(out, entry.nodeid, entry.generation, valid, nsec);
         put_attr(out, &entry.attr);
     }
 }

@@ -15,20 +15,22 @@ use crate::fault::WireFault;
 use crate::limits::MAX_FRAME;
 use crate::opcode::{Minor, is_known, is_node_of, served_minor};
 use crate::request::Request;
-use crate::room::{put_two_u32, put_two_u64, put_u64};
+use crate::room::{put_bytes, put_two_u64};
+use byteorder::{ByteOrder, LittleEndian};
 use std::alloc::Allocator;
 
-#[tactic(auto, using(std::proofs::Common::append_assoc))]
 fn put_header<A: Allocator>(out: &mut Vec<u8, A>, len: u32, code: u32, unique: u64, nodeid: u64)
     requires { vec_len out.old + 40 ≤ vec_capacity out.old }
     ensures items { out.new.items ≡ out.old.items ++ spellings (header len code unique (u64 nodeid)) }
     ensures len { vec_len out.new ≡ vec_len out.old + 40 }
     ensures capacity { vec_capacity out.old ≤ vec_capacity out.new }
 {
-    put_two_u32(out, len, code);
-    put_two_u64(out, unique, nodeid);
-    put_two_u32(out, 0, 0);
-    put_two_u32(out, 0, 0);
+    let mut buf = [0u8; 40];
+    LittleEndian::write_u32(&mut buf, len);
+    LittleEndian::write_u32(&mut buf[4..], code);
+    LittleEndian::write_u64(&mut buf[8..], unique);
+    LittleEndian::write_u64(&mut buf[16..], nodeid);
+    put_bytes(out, &buf);
 }
 
 /// Appends one pair of a node id and how many lookups of it are forgotten (`struct fuse_forget_one`).
@@ -48,8 +50,7 @@ pub fn put_pair<A: Allocator>(
     ensures room { vec_len out.old + 16 ≤ vec_capacity out.old → result ≢ Err MemoryFault }
 {
     out.reserve(16).map_err(|_| WireFault::Memory)?;
-    put_u64(out, nodeid);
-    put_u64(out, nlookup);
+    put_two_u64(out, nodeid, nlookup);
     Ok(())
 }
 

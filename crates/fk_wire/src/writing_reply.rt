@@ -1,10 +1,10 @@
 //! Replies as frames.
 
-ghost use Rattle.std.specs.Prelude.{◌≡◌, ◌≢◌, ◌≤◌, ◌<◌, ◌+◌, ◌++◌, ◌↔◌, ℕ, List, [], false, length};
+ghost use Rattle.std.specs.Prelude.{◌≡◌, ◌≢◌, ◌≤◌, ◌<◌, ◌+◌, ◌^◌, ◌++◌, ◌↔◌, ℕ, List, [], false, length};
 ghost use Rattle.std.specs.Prelude.{IsTrue, OnOk, OnErr, IfErr, vec_len, vec_capacity};
 ghost use Rattle.std.specs.Int.{cast_unsigned, w32};
 ghost use Rattle.std.specs.Int.RustNames.{bit_and};
-ghost use Rattle.fk_wire.specs.Fields.{InRange, sizes, spellings};
+ghost use Rattle.fk_wire.specs.Fields.{InRange, bytes_of, sizes, spellings};
 ghost use Rattle.fk_wire.specs.Requests.{known_flags};
 ghost use Rattle.fk_wire.specs.Replies.{ReplyMessage, WrittenReply, WrittenReplyAt, GoesWith, SpellsReplyAt};
 ghost use Rattle.fk_wire.specs.Replies.{IsReplyContent, reply_body, open_fields, init_fields, init_end, reply_content};
@@ -24,6 +24,7 @@ use crate::opcode::{Minor, Opcode, served_minor};
 use crate::reading_reply::init_size;
 use crate::reply::{Reply, ReplyBody};
 use crate::room::{put_bytes, put_two_u32, put_u32, put_u64, put_zeros};
+use byteorder::{ByteOrder, LittleEndian};
 use std::alloc::Allocator;
 
 /// The error number as the header has it.
@@ -160,6 +161,22 @@ fn put_reply_body<A: Allocator>(out: &mut Vec<u8, A>, body: &ReplyBody<'_>)
     }
 }
 
+/// A `struct fuse_out_header`.
+#[inline(always)]
+fn put_header<A: Allocator>(out: &mut Vec<u8, A>, len: u32, word: u32, unique: u64)
+    requires { vec_len out.old + 16 ≤ vec_capacity out.old }
+    ensures items { out.new.items ≡ out.old.items ++ (bytes_of 4 len ++ bytes_of 4 word ++ bytes_of 8 unique) }
+    ensures fits { unique < 2 ^ 64 }
+    ensures len { vec_len out.new ≡ vec_len out.old + 16 }
+    ensures capacity { vec_capacity out.old ≤ vec_capacity out.new }
+{
+    let mut buf = [0u8; 16];
+    LittleEndian::write_u32(&mut buf, len);
+    LittleEndian::write_u32(&mut buf[4..], word);
+    LittleEndian::write_u64(&mut buf[8..], unique);
+    put_bytes(out, &buf);
+}
+
 /// Appends the frame of a reply, of 7.31.
 ///
 /// # Errors
@@ -214,9 +231,7 @@ pub fn write_reply_at<A: Allocator>(
         return Err(WireFault::Body);
     }
     out.reserve(16 + size).map_err(|_| WireFault::Memory)?;
-    put_u32(out, 16 + size as u32);
-    put_u32(out, word);
-    put_u64(out, reply.unique);
+    put_header(out, 16 + size as u32, word, reply.unique);
     put_reply_body(out, &reply.body);
     Ok(())
 }
