@@ -156,13 +156,13 @@ impl<'a, A: Allocator> Comparable<NameKey<A>> for LentKey<'a> {
 
     #[inline(always)]
     fn compare(&self, key: &NameKey<A>) -> Ordering {
-        match self.directory.cmp(&key.directory()) {
-            Ordering::Equal => match self.front.cmp(&key.front()) {
-                Ordering::Equal => compare_names(self.name, key.name()),
-                apart => apart,
-            },
-            apart => apart,
+        if self.directory != key.directory() {
+            return self.directory.cmp(&key.directory());
         }
+        if self.front != key.front() {
+            return self.front.cmp(&key.front());
+        }
+        compare_names(self.name, key.name())
     }
 }
 
