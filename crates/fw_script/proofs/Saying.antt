@@ -1,10 +1,12 @@
 -- Lines of a text, and what they say.
 use Rattle.std.proofs.Common.{◌≡◌, ◌++◌, ℕ, List, [], ◌∷◌, append-nil, refl, ap, subst}
-use Rattle.fw_script.specs.Lines.{LineHasWords}
+use Rattle.fw_script.specs.Lines.{IsWritten, LineHasWords}
 use Rattle.fw_script.specs.Running.{Say, no_more, passed_over, says}
 use Rattle.fw_script.specs.Scripts.{IsPassedOver}
 use Rattle.fuse_text.specs.Words.{words_of}
 use Rattle.fw_script.specs.declared.line.Line.{Line}
+use Rattle.fw_script.specs.declared.line.Line.TheVariants as lines
+use Rattle.fw_world.specs.declared.event.Event.TheVariants as event
 
 -- one text after another
 pub Say-append : (texts more : List (List ℕ)) (lines others : List Line) → Say texts lines → Say more others
@@ -102,3 +104,8 @@ Say-over texts lines said t over =
 pub Say-more : (texts : List (List ℕ)) (lines : List Line) → Say texts lines → (t : List ℕ) (l : Line)
     → LineHasWords l (words_of t) → Say (texts ++ t ∷ []) (lines ++ l ∷ [])
 Say-more texts lines said t l names = Say-append texts (t ∷ []) lines (l ∷ []) said (says t l [] [] names no_more)
+
+-- what a line says is written
+pub said_is_written : (l : Line) (words : List (List ℕ)) → LineHasWords l words → IsWritten l
+said_is_written (lines.Event (event.Mount found missing m)) words h = tt
+said_is_written l words h = h.1

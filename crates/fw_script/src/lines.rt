@@ -51,21 +51,6 @@ pub fn is_passed_over(line: &[u8]) -> bool
     matches!(line, [] | [b'#', ..])
 }
 
-/// What a line says, if it says anything.
-#[inline(always)]
-fn read_any(line: &[u8]) -> Result<Option<Line<'_>>, LineFault>
-    ensures judged { MatchResult result (λ said. IsGoodLine line.now) (LineFaultIs line.now) }
-    ensures says { IfOk result (λ said. MatchOption said (IsPassedOver line.now)
-        (λ l. LineHasWords l (words_of line.now))) }
-    ensures written { IfOk result (λ said. IfSome said IsWritten) }
-{
-    if is_passed_over(line) {
-        return Ok(None);
-    }
-    let said = read_line(line)?;
-    Ok(Some(said))
-}
-
 /// Why a script is refused whose lines cannot be kept: for its first line with a fault, or else as out of memory.
 #[cold]
 fn refused_lines(script: &[u8]) -> Stop<LineFault>
@@ -74,7 +59,10 @@ fn refused_lines(script: &[u8]) -> Stop<LineFault>
     let mut number = 0;
     for line in Lines::of(script) {
         number += 1;
-        if let Err(fault) = read_any(line) {
+        if is_passed_over(line) {
+            continue;
+        }
+        if let Err(fault) = read_line(line) {
             return Stop::BadLine { number, fault };
         }
     }
@@ -94,9 +82,11 @@ pub(crate) fn read_lines<A: Allocator>(
     let mut number = 0;
     for line in Lines::of(script) {
         number += 1;
-        match read_any(line) {
-            Ok(None) => {}
-            Ok(Some(said)) => {
+        if is_passed_over(line) {
+            continue;
+        }
+        match read_line(line) {
+            Ok(said) => {
                 if lines.push(said).is_err() {
                     return Err(refused_lines(script));
                 }
