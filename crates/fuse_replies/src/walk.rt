@@ -10,7 +10,7 @@ fn padded_len(len: usize) -> usize
     requires { len < 2 ^ 62 }
     ensures { result ≡ padded len }
 {
-    len + (8 - len % 8) % 8
+    (len + 7) / 8 * 8
 }
 
 /// How many bytes of an entry come before a record.

@@ -52,7 +52,7 @@ fn padded_len(len: usize) -> usize
     requires { len < 2 ^ 62 }
     ensures { result ≡ padded len }
 {
-    len + (8 - len % 8) % 8
+    (len + 7) / 8 * 8
 }
 
 /// Whether the bytes are a record's name.
