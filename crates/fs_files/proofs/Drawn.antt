@@ -1,5 +1,5 @@
 -- What an operation allocates, refused or not.
-use Rattle.std.proofs.Common.{◌≡◌, ℕ, Bool, true, false, true≢false, cond, List, [], length, Option, Some, None, sym, ap, subst, arith, refl}
+use Rattle.std.proofs.Common.{◌≡◌, ℕ, Bool, true, false, true≢false, cond, List, [], length, Option, None, sym, ap, subst, arith, refl}
 use Rattle.std.specs.Prelude.{is_err, Result, Ok, Err}
 use Rattle.fuse_spec.specs.Values.Numbers.{ebadf, eintr, eio}
 use Rattle.fuse_spec.specs.Kernel.Messages.{RequestBody, asks, release}

@@ -70,18 +70,18 @@ mapped_length : {X Y : Type 0} (f : X → Y) (xs : List X) → length (map f xs)
 mapped_length f [] = refl
 mapped_length f (x ∷ xs) = let rest = mapped_length f xs in omega (arith, rest)
 
-module _ (tree : Tree) (nodes : NodeTable) (bytes view : List ℕ) (same : view ≡ bytes) (entries : List Entry)
-    (is_entries : entries ≡ map (entry_named tree nodes) (dirents_in_bytes view)) where
+module _ (tree : Tree) (nodes : NodeTable) (bytes : List ℕ) (names : List Dirent) (same : names ≡ dirents_in_bytes bytes)
+    (entries : List Entry) (is_entries : entries ≡ map (entry_named tree nodes) names) where
   pub one_each : length entries ≡ length (dirents_in_bytes bytes)
-  one_each = ap (λ (es : List Entry). length es) is_entries ∙ mapped_length (entry_named tree nodes)
-      (dirents_in_bytes view) ∙ ap (λ (b : List ℕ). length (dirents_in_bytes b)) same
+  one_each = ap (λ (es : List Entry). length es) is_entries ∙ mapped_length (entry_named tree nodes) names
+      ∙ ap (λ (ds : List Dirent). length ds) same
 
   pub one_a_record : length entries ≡ length (dirents_in bytes)
   one_a_record = one_each ∙ mapped_length dirent_read (dirents_in bytes)
 
   pub file_entries_so : IsSoundNodeTable nodes → (ms : ℕ) (file_entries : List Entry)
-      → file_entries ≡ files_listed (entries_named tree nodes (dirents_in_bytes view))
+      → file_entries ≡ files_listed (entries_named tree nodes names)
       → file_entries ≡ files_listed (listed_pairs ms entries bytes)
   file_entries_so sound ms file_entries are_files =
-      are_files ∙ sym (file_entries_are tree nodes sound ms (dirents_in_bytes view)) ∙
-      (λ i. files_listed (direntpluses_of ms (sym is_entries i) (dirents_in_bytes (same i))))
+      are_files ∙ sym (file_entries_are tree nodes sound ms names) ∙
+      (λ i. files_listed (direntpluses_of ms (sym is_entries i) (same i)))

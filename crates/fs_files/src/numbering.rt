@@ -17,6 +17,7 @@ ghost use Rattle.fs_files.specs.Numbering.{GivesEntry, GivesNumbers, entries_nam
 
 use crate::files::Files;
 use crate::listed_names::ListedNames;
+use crate::records::records_of;
 use crate::replies::{Outcome, SentReply};
 use crate::spare::ListingBuffers;
 use fk_wire::Records;
@@ -100,35 +101,18 @@ impl<S: NodeStore> Files<S> {
         ensures handles { self.new.handles ≡ self.old.handles }
         ensures sound { IsSoundNodeTable self.new.nodes }
     {
-        self.give_listed(&records);
+        let listed = records_of(&records);
+        self.give_records(listed);
+        self.lemma_sound();
         let mut entries = spare.entries;
         let mut file_entries = spare.file_entries;
-        self.put_entries(&records, &mut entries, &mut file_entries);
+        self.put_entries(listed, &mut entries, &mut file_entries);
         ListedNames {
             records,
             entries,
             file_entries,
             found_ms,
         }
-    }
-
-    /// Counts a lookup of each file that these records list.
-    fn give_listed(&mut self, records: &[u8])
-        requires records { AreRecordBytes records.now }
-        requires listable { All (IsListable self.old.tree) (dirents_in_bytes records.now) }
-        requires few { length (dirents_in_bytes records.now) ≤ 32 }
-        requires room { length (dirents_in_bytes records.now) ≤ self.old.node_room }
-        requires generations { generations_after self.old.nodes
-            (files_listed (map (pair_listed 0) (dirents_in_bytes records.now))) ≤ counter_end }
-        requires counted { AreHeldBelow self.old.nodes }
-        ensures given { GivenEach self.old.nodes (files_listed
-            (map (pair_listed 0) (dirents_in_bytes records.now))) self.new.nodes }
-        ensures tree { self.new.tree ≡ self.old.tree }
-        ensures handles { self.new.handles ≡ self.old.handles }
-        ensures sound { IsSoundNodeTable self.new.nodes }
-    {
-        self.give_records(Records::over(records).unwrap());
-        self.lemma_sound();
     }
 
     /// Counts a lookup of the file of each record, one after another.
@@ -174,21 +158,20 @@ impl<S: NodeStore> Files<S> {
     /// Puts the entry of each name last, and among those of files too, unless the name is `.` or `..`.
     fn put_entries(
         &self,
-        records: &[u8],
+        records: Records<'_>,
         entries: &mut Vec<Entry, S::Heap>,
         file_entries: &mut Vec<Entry, S::Heap>,
     )
-        requires records { AreRecordBytes records.now }
-        requires listable { All (IsListable self.now.tree) (dirents_in_bytes records.now) }
+        requires listable { All (IsListable self.now.tree) (listed_in records) }
         requires none { entries.old.items ≡ [] }
         requires no_file_entries { file_entries.old.items ≡ [] }
-        requires room { length (dirents_in_bytes records.now) ≤ vec_capacity entries.old }
-        requires file_room { length (dirents_in_bytes records.now) ≤ vec_capacity file_entries.old }
-        ensures entries { entries.new.items ≡ map (entry_named self.now.tree self.now.nodes) (dirents_in_bytes records.now) }
+        requires room { length (listed_in records) ≤ vec_capacity entries.old }
+        requires file_room { length (listed_in records) ≤ vec_capacity file_entries.old }
+        ensures entries { entries.new.items ≡ map (entry_named self.now.tree self.now.nodes) (listed_in records.entry) }
         ensures file_entries { file_entries.new.items ≡ files_listed
-            (entries_named self.now.tree self.now.nodes (dirents_in_bytes records.now)) }
+            (entries_named self.now.tree self.now.nodes (listed_in records.entry)) }
     {
-        'records: for record in Records::over(records).unwrap() {
+        'records: for record in records {
             let entry = self.entry_of(record.ino - 1);
             entries.push_reserved(entry);
             put_file_entry(file_entries, record.name, entry);

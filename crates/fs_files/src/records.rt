@@ -1,15 +1,16 @@
 //! The records of a READDIR.
 
-ghost use Rattle.std.specs.Prelude.{◌≡◌, ◌<◌, All, IfOk, OnOk, map};
+ghost use Rattle.std.specs.Prelude.{◌≡◌, ◌<◌, All, IfOk, OnOk, length, map};
 ghost use Rattle.fuse_spec.specs.Values.Numbers.{counter_end};
 ghost use Rattle.fk_wire.specs.Dirents.{dirents, HaveRecordNames};
-ghost use Rattle.fk_wire.specs.Fields.{InRange, spellings};
-ghost use Rattle.fk_wire.specs.Records.{dirent_content};
+ghost use Rattle.fk_wire.specs.Fields.{InRange, sizes, spellings};
+ghost use Rattle.fk_wire.specs.Records.{dirent_content, records_in};
 ghost use Rattle.fs_tree.specs.declared.listing.Record.{Record as RecordValue};
+ghost use Rattle.fs_files.specs.Listed.{AreRecordBytes, dirents_in};
 ghost use Rattle.fs_files.specs.Listing.{written_record_of};
 ghost use Rattle.fuse_frames.specs.ReplyTies.{type_of};
 
-use fk_wire::{Dirent, put_record};
+use fk_wire::{Dirent, Records, put_record};
 use fs_tree::{Kind, Record};
 use std::alloc::{AllocError, Allocator};
 
@@ -38,6 +39,15 @@ pub(crate) fn record_bytes<A: Allocator>(
         }
     }
     Ok(bytes)
+}
+
+/// The records that these bytes are.
+pub(crate) fn records_of(bytes: &[u8]) -> Records<'_>
+    requires { AreRecordBytes bytes.now }
+    ensures records { records_in result ≡ dirents_in bytes.now }
+    ensures len { sizes (dirents (records_in result)) ≡ length bytes.now }
+{
+    Records::over(bytes).unwrap()
 }
 
 /// The type in a record: 4 for a directory, 8 for a file.

@@ -1,31 +1,23 @@
-use Rattle.std.proofs.Common.{◌≡◌, Option, Some, None, cond, ◌++◌, List, [], ◌∷◌, All, length, map, sym, ap, subst, ◌∙◌, arith}
+use Rattle.std.proofs.Common.{◌≡◌, Option, Some, None, cond, ◌++◌, List, [], ◌∷◌, All, length, map, ap, subst, ◌∙◌, arith}
 use Rattle.std.proofs.lemmas.List.Elements.{All-head, All-tail}
 use Rattle.fk_wire.specs.Dirents.{DirentContent}
 use Rattle.fk_wire.specs.Records.{records_in, dirent_content}
 use Rattle.fuse_spec.specs.Files.Operations.{Dirent, files_listed}
 use Rattle.fuse_spec.specs.declared.Entry.{Entry}
 use Rattle.fuse_frames.specs.ReplyTies.{dirent_read}
-use Rattle.fs_files.specs.Listed.{dirents_in_bytes}
+use Rattle.fs_files.specs.Listed.{listed_in}
 use Rattle.fs_files.specs.Replies.{IsListable}
 use Rattle.fs_files.specs.Numbering.{entries_named, entry_named}
 use Rattle.fuse_spec.specs.Files.Operations.{first_listed}
 use Rattle.fuse_spec.specs.Calls.Paths.{is_dots}
 use Rattle.fs_files.proofs.EntriesPut.{one_longer, one_on, files_longer, files_on}
-use Rattle.fs_files.proofs.Listing.{is_over, over_are}
 use Rattle.fs_files.proofs.files.Files.put_entries.Goals as goal
-
-pub unwrap-record-items-requires : goal.unwrap-record-items-requires
-unwrap-record-items-requires g c = is_over c.args.records.now c.over.result c.requires.records c.over.ensures
 
 pub records-init : goal.records-init
 records-init g c =
     let tree = c.args.self.now.tree in
     let nodes = c.args.self.now.nodes in
-    let same = (over_are c.args.records.now c.over.result c.unwrap-record-items.result c.over.ensures c.unwrap-record-items.ensures).0 in
-    let names : map dirent_read (records_in c.unwrap-record-items.result) ≡ dirents_in_bytes c.args.records.now =
-    ap (λ (ds : List DirentContent). map dirent_read ds) same in
-    let many : length (map dirent_read (records_in c.unwrap-record-items.result))
-    ≡ length (dirents_in_bytes c.args.records.now) = ap (λ (ds : List Dirent). length ds) names in
+    let names = listed_in c.args.records in
     let none : length c.args.entries.now.items ≡ 0 = ap (λ (es : List Entry). length es) c.requires.none in
     let no_file_entries : length c.args.file_entries.now.items ≡ 0 = ap (λ (es : List Entry). length es) c.requires.no_file_entries in
     let room = c.requires.room in
@@ -33,11 +25,11 @@ records-init g c =
     rw c.into_iter-record-iterator.ensures.into_iter_gives (
       tt,
       tt,
-      subst (λ (ds : List Dirent). All (IsListable tree) ds) (sym names) c.requires.listable,
-      rw c.requires.none (ap (λ (ds : List Dirent). map (entry_named tree nodes) ds) names),
-      rw c.requires.no_file_entries (ap (λ (ds : List Dirent). files_listed (entries_named tree nodes ds)) names),
-      omega (arith, many, none, room),
-      omega (arith, many, no_file_entries, file_room),
+      c.requires.listable,
+      ap (λ (es : List Entry). es ++ map (entry_named tree nodes) names) c.requires.none,
+      ap (λ (es : List Entry). es ++ files_listed (entries_named tree nodes names)) c.requires.no_file_entries,
+      omega (arith, none, room),
+      omega (arith, no_file_entries, file_room),
     )
 
 pub overflow_sub-record : goal.overflow_sub-record
@@ -70,8 +62,8 @@ records-preserved g c =
     let is : e ≡ entry_named tree nodes d = c.entry_of-entry.ensures in
     let o : Option Entry = cond (is_dots d.name) None (Some e) in
     let rest : List Entry = files_listed (entries_named tree nodes ds) in
-    let whole : List Entry = map (entry_named tree nodes) (dirents_in_bytes c.args.records.now) in
-    let all_files : List Entry = files_listed (entries_named tree nodes (dirents_in_bytes c.args.records.now)) in
+    let whole : List Entry = map (entry_named tree nodes) (listed_in c.args.records) in
+    let all_files : List Entry = files_listed (entries_named tree nodes (listed_in c.args.records)) in
     let items : es ++ map (entry_named tree nodes) (d ∷ ds) ≡ whole =
     subst (λ (xs : List Dirent). es ++ map (entry_named tree nodes) xs ≡ whole) first c.records.invariant.3 in
     let file_entries : ts ++ files_listed (entries_named tree nodes (d ∷ ds)) ≡ all_files =
