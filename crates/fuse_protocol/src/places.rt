@@ -1,9 +1,10 @@
 //! Where further numbers stand in the requests' structs.
 
-ghost use Rattle.std.specs.Prelude.{◌≡◌};
+ghost use Rattle.std.specs.Prelude.{◌≡◌, Some};
 ghost use Rattle.fuse_protocol.specs.Places.{places_at, LieWithin};
 ghost use Rattle.fuse_protocol.specs.Table.{row_at};
 ghost use Rattle.fuse_protocol.specs.Requests.{least_size};
+ghost use Rattle.fuse_protocol.specs.declared.place.Width.TheVariants as width;
 
 use crate::opcode::Opcode;
 use crate::place::{Place, Width};
@@ -25,6 +26,28 @@ pub struct Places {
     pub flags: Option<Place>,
 }
 
+/// A number of four bytes at a place.
+#[inline(always)]
+fn four(at: usize) -> Option<Place>
+    ensures { result ≡ Some (record { at = at; width = width.Four }) }
+{
+    Some(Place {
+        at,
+        width: Width::Four,
+    })
+}
+
+/// A number of eight bytes at a place.
+#[inline(always)]
+fn eight(at: usize) -> Option<Place>
+    ensures { result ≡ Some (record { at = at; width = width.Eight }) }
+{
+    Some(Place {
+        at,
+        width: Width::Eight,
+    })
+}
+
 /// No number further.
 const NOWHERE: Places = Places {
     forgotten: None,
@@ -35,12 +58,12 @@ const NOWHERE: Places = Places {
     flags: None,
 };
 
-/// The places of each opcode, in braces behind its name.
+/// The places of opcodes, in braces behind their names.
 macro_rules! places {
-    ($opcode:expr, $($name:ident { $($field:ident: $width:ident at $at:literal),* })*) => {
+    ($opcode:expr, $($($name:ident)+ { $($field:ident: $place:expr),* })*) => {
         match $opcode {
-            $(Opcode::$name => Places {
-                $($field: Some(Place { at: $at, width: Width::$width }),)*
+            $($(Opcode::$name)|+ => Places {
+                $($field: $place,)*
                 ..NOWHERE
             },)*
         }
@@ -56,56 +79,26 @@ pub fn places_of(opcode: Opcode) -> Places
 {
     places! {
         opcode,
-        Lookup {}
-        Forget { forgotten: Eight at 0 }
-        Getattr { flags: Four at 0 }
-        Setattr { flags: Four at 0, size: Eight at 16, mode: Four at 68 }
-        Readlink {}
-        Symlink {}
-        Mknod { mode: Four at 0 }
-        Mkdir { mode: Four at 0 }
-        Unlink {}
-        Rmdir {}
-        Rename {}
-        Link {}
-        Open { flags: Four at 0 }
-        Read { offset: Eight at 8, size: Four at 16, flags: Four at 32 }
-        Write { offset: Eight at 8, size: Four at 16, flags: Four at 32 }
-        Statfs {}
-        Release { flags: Four at 8 }
-        Fsync { flags: Four at 8 }
-        Setxattr { size: Four at 0, flags: Four at 4 }
-        Getxattr { size: Four at 0 }
-        Listxattr { size: Four at 0 }
-        Removexattr {}
-        Flush {}
-        Init { flags: Four at 12 }
-        Opendir { flags: Four at 0 }
-        Readdir { offset: Eight at 8, size: Four at 16, flags: Four at 32 }
-        Releasedir { flags: Four at 8 }
-        Fsyncdir { flags: Four at 8 }
-        Getlk { offset: Eight at 16, flags: Four at 40 }
-        Setlk { offset: Eight at 16, flags: Four at 40 }
-        Setlkw { offset: Eight at 16, flags: Four at 40 }
-        Access { mode: Four at 0 }
-        Create { flags: Four at 0, mode: Four at 4 }
-        Interrupt { interrupted: Eight at 0 }
-        Bmap {}
-        Destroy {}
-        Ioctl { flags: Four at 8, size: Four at 24 }
-        Poll { flags: Four at 16 }
-        NotifyReply { offset: Eight at 8, size: Four at 16 }
-        BatchForget {}
-        Fallocate { offset: Eight at 8, size: Eight at 16, mode: Four at 24 }
-        Readdirplus { offset: Eight at 8, size: Four at 16, flags: Four at 32 }
-        Rename2 { flags: Four at 8 }
-        Lseek { offset: Eight at 8 }
-        CopyFileRange { offset: Eight at 8, size: Eight at 40, flags: Eight at 48 }
-        Setupmapping { offset: Eight at 8, size: Eight at 16, flags: Eight at 24 }
-        Removemapping {}
-        Syncfs {}
-        Tmpfile { flags: Four at 0, mode: Four at 4 }
-        Statx { flags: Four at 0 }
-        CopyFileRange64 { offset: Eight at 8, size: Eight at 40, flags: Eight at 48 }
+        Lookup Readlink Symlink Unlink Rmdir Rename Link Statfs Removexattr Flush Bmap Destroy BatchForget
+            Removemapping Syncfs {}
+        Forget { forgotten: eight(0) }
+        Getattr Open Opendir Statx { flags: four(0) }
+        Setattr { flags: four(0), size: eight(16), mode: four(68) }
+        Mknod Mkdir Access { mode: four(0) }
+        Read Write Readdir Readdirplus { offset: eight(8), size: four(16), flags: four(32) }
+        Release Fsync Releasedir Fsyncdir Rename2 { flags: four(8) }
+        Setxattr { size: four(0), flags: four(4) }
+        Getxattr Listxattr { size: four(0) }
+        Init { flags: four(12) }
+        Getlk Setlk Setlkw { offset: eight(16), flags: four(40) }
+        Create Tmpfile { flags: four(0), mode: four(4) }
+        Interrupt { interrupted: eight(0) }
+        Ioctl { flags: four(8), size: four(24) }
+        Poll { flags: four(16) }
+        NotifyReply { offset: eight(8), size: four(16) }
+        Fallocate { offset: eight(8), size: eight(16), mode: four(24) }
+        Lseek { offset: eight(8) }
+        CopyFileRange CopyFileRange64 { offset: eight(8), size: eight(40), flags: eight(48) }
+        Setupmapping { offset: eight(8), size: eight(16), flags: eight(24) }
     }
 }
