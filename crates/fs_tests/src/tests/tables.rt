@@ -165,6 +165,36 @@ fn change_in_place<A: Allocator + Copy>(alloc: A) -> Result<([Option<u64>; 8], u
     Ok((changed, unchanged))
 }
 
+/// The even keys from 2 to 60.
+fn put_by_two<A: Allocator + Copy>(table: &mut RisingTable<u64, A>) -> Result<(), AllocError> {
+    for step in 1..31u64 {
+        put_key(table, step.wrapping_mul(2))?;
+    }
+    Ok(())
+}
+
+/// The same of keys that rise by two, of which one in the middle and the first are taken out on the way.
+fn change_by_two<A: Allocator + Copy>(alloc: A) -> Result<([Option<u64>; 10], u64), AllocError> {
+    let mut table = RisingTable::new(alloc);
+    let put = put_by_two(&mut table);
+    let changed = [
+        add_thousand(&mut table, 2),
+        add_thousand(&mut table, 60),
+        add_thousand(&mut table, 32),
+        add_thousand(&mut table, 33),
+        add_thousand(&mut table, 62),
+        table.remove(32),
+        add_thousand(&mut table, 32),
+        table.remove(2),
+        add_thousand(&mut table, 4),
+        add_thousand(&mut table, 34),
+    ];
+    let unchanged = count_unchanged(&table);
+    drop(table);
+    put?;
+    Ok((changed, unchanged))
+}
+
 /// How many entries the list of a table has, if their keys rise and each has its key as its value.
 fn count_listed<A: Allocator + Copy>(alloc: A) -> Result<Option<usize>, AllocError> {
     let mut table = RisingTable::new(alloc);
@@ -215,6 +245,30 @@ fn values_are_changed_in_place(rt: HostRuntime) -> Result<(), Fail> {
             ]
     );
     assert!(rt; unchanged == 34);
+    Ok(())
+}
+
+/// The first key, the last, one in the middle, one between others and one above all; what is taken out in the middle, which
+/// is gone then; the first, and two behind it. Of 30 values 2 are taken out, and 3 of the others changed.
+#[test]
+fn values_are_found_where_keys_rise_by_two(rt: HostRuntime) -> Result<(), Fail> {
+    let (changed, unchanged) = change_by_two(rt.alloc())?;
+    assert!(rt;
+        changed
+            == [
+                Some(1002),
+                Some(1060),
+                Some(1032),
+                None,
+                None,
+                Some(1032),
+                None,
+                Some(1002),
+                Some(1004),
+                Some(1034),
+            ]
+    );
+    assert!(rt; unchanged == 25);
     Ok(())
 }
 
