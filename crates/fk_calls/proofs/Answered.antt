@@ -1,5 +1,5 @@
 -- Calls that are answered one after another, the last first.
-use Rattle.std.proofs.Common.{◌≡◌, ◌≢◌, ℕ, suc, ◌+◌, ◌-◌, ◌≤◌, ◌<◌, Bool, true, false, cond, [], ◌∷◌, ◌++◌, length, get_or, take, append_assoc, drop-cons, Option, Some, None, T, refl, ap, sym, ◌∙◌, arith, subst}
+use Rattle.std.proofs.Common.{◌≡◌, ◌≢◌, ℕ, suc, ◌+◌, ◌-◌, ◌≤◌, ◌<◌, Bool, true, false, cond, List, [], ◌∷◌, ◌++◌, length, get_or, take, append_assoc, append-nil, length-append, length-take, drop-cons, Option, Some, None, T, refl, ap, sym, ◌∙◌, arith, subst}
 use Rattle.std.specs.Prelude.{is_some}
 use Rattle.std.specs.Cmp.{nat_cmp_total}
 use Rattle.std.specs.FinMap.{is_sorted}
@@ -85,6 +85,30 @@ module _ (calls before : Map (CallState Opened)) (e : ℕ × CallState Opened) (
       ap (λ (m : Map Answer). get m e.0) so.entries ∙ answer_unchanged (failed econnaborted) so.done old.entries e.0 here
       (absent e.0 there)
 
+-- no call is behind the ones that are left yet
+pub none_behind : (calls : Map (CallState Opened)) (old : TableState Answer) → AnsweredBehind calls calls old old
+none_behind calls old = record {
+  done = [];
+  all = sym (append-nil calls);
+  entries = refl;
+  room = omega arith;
+}
+
+-- where none is left, all are answered
+pub all_behind : (calls left : Map (CallState Opened)) (old new : TableState Answer)
+    → AnsweredBehind calls left old new → length left < 1
+    → new.entries ≡ all_answered (failed econnaborted) calls old.entries
+all_behind calls [] old new so few = so.entries ∙ ap (λ (m : Map (CallState Opened)). all_answered (failed econnaborted) m
+    old.entries) (sym so.all)
+all_behind calls (e ∷ left) old new so few = absurd (omega (arith, few))
+
+-- there is room for the answers of those that are left
+pub room_left : (calls left : Map (CallState Opened)) (old new : TableState Answer)
+    → AnsweredBehind calls left old new → 1 ≤ length left → length calls ≤ old.room → 0 < new.room
+room_left calls left old new so some room =
+    let all : length calls ≡ length left + length so.done = ap length so.all ∙ length-append left so.done in
+    omega (arith, so.room)
+
 -- the last of the calls that are left has no answer yet
 pub absent_last : (calls left : Map (CallState Opened)) (old new : TableState Answer)
     → AnsweredBehind calls left old new → 1 ≤ length left → T (is_sorted nat_cmp calls)
@@ -107,3 +131,7 @@ answered_last calls left old now new so some d entries room = record {
       (failed econnaborted)) so.entries;
   room = omega (arith, so.room, room);
 }
+
+-- fewer are left without the last
+pub fewer : {X : Type 0} (left : List X) → 1 ≤ length left → length (take (length left - 1) left) < length left
+fewer left some = omega (arith, length-take (length left - 1) left)

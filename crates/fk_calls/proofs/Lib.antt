@@ -1,1 +1,2 @@
+pub mod AnyRow
 pub mod Answered
