@@ -37,23 +37,44 @@ fn decode_line<A: Allocator + Copy, W: Write>(
     taken(out.flush())
 }
 
-/// Prints each line in words, and what the capture comes to.
-fn decode<A: Allocator + Copy, R: BufRead, W: Write>(
+/// Prints each line in words.
+fn decode_lines<A: Allocator + Copy, R: BufRead, W: Write>(
     alloc: A,
+    decoding: &mut Decoding<A>,
     input: &mut R,
     out: &mut W,
 ) -> Result<(), Stop<CaptureFault>> {
-    let mut decoding = Decoding::new(alloc);
     let mut line = Vec::new(alloc);
     let mut frame = Vec::new(alloc);
     for number in 1..u64::MAX {
         if !next_line(input, &mut line)? {
             break;
         }
-        decode_line(&mut decoding, &mut frame, number, line.as_slice(), out)?;
+        decode_line(decoding, &mut frame, number, line.as_slice(), out)?;
     }
+    Ok(())
+}
+
+/// Prints each line in words, and what they come to.
+fn decode_all<A: Allocator + Copy, R: BufRead, W: Write>(
+    alloc: A,
+    decoding: &mut Decoding<A>,
+    input: &mut R,
+    out: &mut W,
+) -> Result<(), Stop<CaptureFault>> {
+    decode_lines(alloc, decoding, input, out)?;
     decoding.write_end(out)?;
     taken(out.flush())
+}
+
+/// Decodes a capture from nothing.
+fn decode<A: Allocator + Copy, R: BufRead, W: Write>(
+    alloc: A,
+    input: &mut R,
+    out: &mut W,
+) -> Result<(), Stop<CaptureFault>> {
+    let mut decoding = Decoding::new(alloc);
+    decode_all(alloc, &mut decoding, input, out)
 }
 
 /// Prints a capture in words, each line as soon as it is read, and then counts. Behind each frame stand the faults that
