@@ -135,6 +135,29 @@ fn check_all<A: Allocator + Copy, R: BufRead, W: Write>(
     }
 }
 
+/// Judges each line and prints what is asked for, and says on `faults` why it stops before the end. Gives the exit status.
+fn check_with<A: Allocator + Copy, R: BufRead, W: Write, F: Write>(
+    alloc: A,
+    options: CheckOptions,
+    checker: &mut Checker<A>,
+    name: &str,
+    input: &mut R,
+    out: &mut W,
+    faults: &mut F,
+) -> u8
+    ensures { IsKept (nothing_judged options.is_joined) (seen_by checker.old.seen) checker.old.counts
+        → EndsCheck W.contents F.contents options name.now (R.remaining input.old) out.old out.new faults.old faults.new result }
+{
+    match check_all(alloc, options, checker, input, out) {
+        Ok(()) => if checker.counts.has_no_finding(options.is_strict) {
+            0
+        } else {
+            FAULTS
+        },
+        Err(stop) => stop.report(name, faults),
+    }
+}
+
 /// Judges the session that a capture says, and prints each fault and warning that is asked for as soon as its line was read, and counts
 /// at the end, in the form that is asked for. The memory grows with what is unanswered and open, and with the nodes that were given.
 ///
@@ -153,12 +176,5 @@ pub fn run_check<A: Allocator + Copy, R: BufRead, W: Write, F: Write>(
         result }
 {
     let mut checker = Checker::new(alloc, options.is_joined);
-    match check_all(alloc, options, &mut checker, input, out) {
-        Ok(()) => if checker.counts.has_no_finding(options.is_strict) {
-            0
-        } else {
-            FAULTS
-        },
-        Err(stop) => stop.report(name, faults),
-    }
+    check_with(alloc, options, &mut checker, name, input, out, faults)
 }
