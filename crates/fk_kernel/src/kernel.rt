@@ -18,10 +18,15 @@ use fk_nodes::CountedNodes;
 use fk_opens::OpenFiles;
 use fk_queues::{KernelQueues, ListQueues, QueueTable, Queues};
 use fk_syscalls::CallState;
+use fuse_frames::RequestFrame;
 use fuse_spec::{Minor, NodeCount, Opened, Phase, Purpose};
 use fuse_tables::Table;
 use std::alloc::{AllocError, Global};
 use std::marker::Model;
+use std::mem::replace;
+
+/// The most bytes of memory that are kept for the next frame.
+const MOST_SPARE: usize = 256;
 
 /// The kernel's half of the protocol, over any queues and any table of counted nodes. It accepts system calls, produces
 /// request frames, and accepts arbitrary bytes as replies.
@@ -44,6 +49,8 @@ pub struct KernelOf<Q: QueueTable<Purpose>, C: CountTable<Heap = Q::Heap>> {
     pub(crate) minor: Minor,
     /// Whether files may be listed with their names.
     pub(crate) lists_files: bool,
+    /// The memory of a frame that was given back.
+    pub(crate) spare: Vec<u8, Q::Heap>,
 }
 
 /// The kernel of the program, over maps.
@@ -102,7 +109,27 @@ impl<Q: QueueTable<Purpose>, C: CountTable<Heap = Q::Heap>> KernelOf<Q, C> {
             clock: 0,
             minor: Minor::M15,
             lists_files: false,
+            spare: Vec::new(alloc),
         }
+    }
+
+    /// Gives back the frame of a request that has reached the server: the next request that is read is written into
+    /// its memory. That of a long frame goes.
+    pub fn reuse(&mut self, frame: RequestFrame<Q::Heap>)
+        ensures { self.new ≡ self.old }
+    {
+        let room = frame.into_bytes();
+        if room.capacity() <= MOST_SPARE {
+            self.spare = room;
+        }
+    }
+
+    /// Room for the frame of a request.
+    #[inline(always)]
+    pub(crate) fn take_spare(&mut self) -> Vec<u8, Q::Heap>
+        ensures { self.new ≡ self.old }
+    {
+        replace(&mut self.spare, Vec::new(self.alloc))
     }
 
     /// Ends the kernel. It is a drop, whose parts are so proved in one crate, and not in each that has a kernel.

@@ -45,7 +45,8 @@ impl<Q: QueueTable<Purpose>, C: CountTable<Heap = Q::Heap>> KernelOf<Q, C> {
         let Some(original) = self.queues.first_interrupt() else {
             return Err(Refusal::NoSuch);
         };
-        let Ok(frame) = RequestFrame::interrupt(self.alloc, interrupt_of(original), original) else {
+        let room = self.take_spare();
+        let Ok(frame) = RequestFrame::interrupt(room, interrupt_of(original), original) else {
             return Err(Refusal::NoMemory);
         };
         let _original = self.queues.read_interrupt();

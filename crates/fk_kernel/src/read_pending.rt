@@ -60,24 +60,30 @@ impl<Q: QueueTable<Purpose>, C: CountTable<Heap = Q::Heap>> KernelOf<Q, C> {
         ensures read { OnOk result (self.new ≡ record self.old { queues = after_read_pending self.old.queues place }) }
     {
         let (unique, purpose) = self.request_to_read(place)?;
-        let frame = self.request_frame(unique, purpose)?;
+        let room = self.take_spare();
+        let frame = self.request_frame(room, unique, purpose)?;
         let _unique = self.queues.read_pending(place as usize);
         Ok(frame)
     }
 
     /// The frame of a request that has something to ask.
-    fn request_frame(&self, unique: u64, purpose: Purpose) -> Result<RequestFrame<Q::Heap>, Refusal>
+    fn request_frame(
+        &self,
+        room: Vec<u8, Q::Heap>,
+        unique: u64,
+        purpose: Purpose,
+    ) -> Result<RequestFrame<Q::Heap>, Refusal>
         requires asks { is_some (body_of self.now purpose) ≡ true }
         ensures refusal { IfErr result (λ refusal. refusal ≡ Refusal.NoMemory) }
         ensures unique { IfOk result (λ frame. frame.unique ≡ unique) }
         ensures body { IfOk result (λ frame. body_of self.now purpose ≡ Some frame.body) }
     {
         let frame = match purpose {
-            Purpose::Init => RequestFrame::init(self.alloc, unique),
-            Purpose::Release(opened) => RequestFrame::release(self.alloc, unique, opened),
+            Purpose::Init => RequestFrame::init(room, unique),
+            Purpose::Release(opened) => RequestFrame::release(room, unique, opened),
             Purpose::Call(call) => {
                 let waiting = self.calls.get(call).unwrap();
-                RequestFrame::asks(self.alloc, unique, &waiting.asks())
+                RequestFrame::asks(room, unique, &waiting.asks())
             }
         };
         match frame {

@@ -25,6 +25,7 @@ use fuse_frames::{ReplyBuffer, Sent};
 use fuse_spec::limits::COUNTER_END;
 use fuse_spec::{Entry, Refusal};
 use std::alloc::AllocError;
+use std::mem::replace;
 
 impl<S: NodeStore> ServerOf<S> {
     /// Why no copy of a kept reply can be sent, out of memory aside: `NoCopy` where no reply is kept under the unique,
@@ -79,12 +80,13 @@ impl<S: NodeStore> ServerOf<S> {
         ensures sent { IfOk result (λ copy. SendsAgain self.old unique copy self.new) }
     {
         self.copies.reserve(1)?;
+        let room = replace(&mut self.spare, Vec::new(self.alloc));
         let Some(kept) = self.kept.get(unique) else {
             unreachable!();
         };
         let reply = kept.reply();
         let len = body_len(reply);
-        let room = ReplyBuffer::new(self.alloc, len)?;
+        let room = ReplyBuffer::new(room, len)?;
         let spare = ListingBuffers::new(self.alloc, len, name_count(reply))?;
         let number = self.next_copy;
         let copy = Sent::new(number, framed(reply, room, unique));

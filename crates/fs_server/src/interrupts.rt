@@ -19,6 +19,7 @@ use fuse_frames::{Reply, ReplyBuffer, Sent};
 use fuse_spec::Taken as TakenWord;
 use fuse_spec::errno::EAGAIN;
 use std::alloc::Allocator;
+use std::mem::replace;
 
 impl<S: NodeStore> ServerOf<S> {
     /// Takes an INTERRUPT: it marks a request that is held, is ignored while the request's reply is kept, and else is
@@ -72,7 +73,8 @@ impl<S: NodeStore> ServerOf<S> {
         let Ok(()) = self.copies.reserve(1) else {
             return Err(ServerFault::Memory);
         };
-        let Ok(room) = ReplyBuffer::new(self.alloc, 0) else {
+        let room = replace(&mut self.spare, Vec::new(self.alloc));
+        let Ok(room) = ReplyBuffer::new(room, 0) else {
             return Err(ServerFault::Memory);
         };
         let reply = Reply::Failed { errno: EAGAIN };

@@ -18,6 +18,7 @@ use fuse_spec::Refusal;
 use fuse_spec::limits::COUNTER_END;
 use fuse_tables::RisingTable;
 use std::alloc::{AllocError, Allocator};
+use std::mem::replace;
 
 impl<S: NodeStore> ServerOf<S> {
     /// Why a held request cannot be performed, out of memory aside: `NoSuch` where none is held under the unique,
@@ -98,10 +99,11 @@ impl<S: NodeStore> ServerOf<S> {
         ensures performed { IfOk result (λ done. PerformsHeld self.old unique done.errno done.sent self.new) }
     {
         reserve_reply(&mut self.kept, &mut self.copies, &mut self.files)?;
+        let room = replace(&mut self.spare, Vec::new(self.alloc));
         let Some(held) = self.held.get(unique) else {
             unreachable!();
         };
-        let memory = memory_for(self.alloc, held)?;
+        let memory = memory_for(self.alloc, room, held)?;
         let file = self.files.unlinked_or_released(held);
         let outcome = self.files.answer(held, self.validity, self.minor)?;
         let ReplyBuffers {
@@ -139,6 +141,7 @@ struct ReplyBuffers<A: Allocator> {
 /// Takes the memory for the reply to a held request.
 fn memory_for<A: Allocator + Copy>(
     alloc: A,
+    room: Vec<u8, A>,
     held: &HeldRequest<A>,
 ) -> Result<ReplyBuffers<A>, AllocError>
     ensures room { IfOk result (λ memory. 16 + reply_room_for held.now.body ≤ memory.room) }
@@ -149,7 +152,7 @@ fn memory_for<A: Allocator + Copy>(
     let len = held.reply_len();
     let names = held.reply_names();
     Ok(ReplyBuffers {
-        room: ReplyBuffer::new(alloc, len)?,
+        room: ReplyBuffer::new(room, len)?,
         spare: ListingBuffers::new(alloc, 0, names)?,
         spare_copy: ListingBuffers::new(alloc, len, names)?,
     })

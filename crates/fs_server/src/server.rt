@@ -51,6 +51,9 @@ pub struct Taken<A: Allocator = Global> {
     pub sent: Option<Sent<A>>,
 }
 
+/// The most bytes of memory that are kept for the next frame.
+const MOST_SPARE: usize = 256;
+
 /// The server's half of the protocol, over any table of held nodes.
 #[derive(Drop)]
 pub struct ServerOf<S: NodeStore> {
@@ -63,6 +66,8 @@ pub struct ServerOf<S: NodeStore> {
     pub(crate) validity: Validity,
     pub(crate) minor: Minor,
     pub(crate) is_aborted: bool,
+    /// The memory of a frame that was given back.
+    pub(crate) spare: Vec<u8, S::Heap>,
 }
 
 /// The server of the program.
@@ -111,7 +116,19 @@ impl<S: NodeStore> ServerOf<S> {
             },
             minor: Minor::M31,
             is_aborted: false,
+            spare: Vec::new(alloc),
         })
+    }
+
+    /// Gives back the frame of a reply that has reached the kernel: the next reply is written into its memory. That of a
+    /// long frame goes.
+    pub fn reuse(&mut self, copy: Sent<S::Heap>)
+        ensures { self.new ≡ self.old }
+    {
+        let room = copy.into_bytes();
+        if room.capacity() <= MOST_SPARE {
+            self.spare = room;
+        }
     }
 
     /// No counter has given a number past its end, 2^62.

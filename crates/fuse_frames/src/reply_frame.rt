@@ -61,6 +61,13 @@ impl<A: Allocator> ReplyFrame<A> {
         &self.bytes
     }
 
+    /// The frame's bytes, by value: their memory may be the room of another frame.
+    pub fn into_bytes(self) -> Vec<u8, A>
+        ensures { (opcode : Opcode) × IsReplyFrame opcode result.items self }
+    {
+        self.bytes
+    }
+
     /// The frame of a reply to a request of this opcode, written into an empty vector that has room for it. It is
     /// written as `message_of` has it.
     pub(crate) fn written(opcode: Opcode, bytes: Vec<u8, A>, reply: &Reply<'_>) -> ReplyFrame<A>

@@ -42,12 +42,15 @@ impl<A: Allocator> Model for ReplyBuffer<A> {
 }
 
 impl<A: Allocator> ReplyBuffer<A> {
-    /// Takes the memory for a reply of a fixed length, and for one whose body is this long.
-    pub fn new(alloc: A, len: usize) -> Result<ReplyBuffer<A>, AllocError>
+    /// Room for a reply of a fixed length, and for one whose body is this long, in the memory of a vector, whose bytes
+    /// go.
+    pub fn new(bytes: Vec<u8, A>, len: usize) -> Result<ReplyBuffer<A>, AllocError>
         requires { len ≤ max_transfer }
         ensures { IfOk result (λ room. 16 + len ≤ room) }
     {
-        let bytes = Vec::with_capacity(alloc, ROOM.max(16 + len))?;
+        let mut bytes = bytes;
+        bytes.clear();
+        bytes.reserve(ROOM.max(16 + len))?;
         Ok(ReplyBuffer { bytes })
     }
 

@@ -17,7 +17,8 @@ use fuse_spec::{Opened, Operation};
 use std::alloc::{AllocError, Allocator, Global};
 use std::marker::Model;
 
-/// A frame of the request link, seen as the request that it spells.
+/// A frame of the request link, seen as the request that it spells. One is made in room that the caller gives, in
+/// place of what that held: a new vector, or the memory of a frame before.
 #[derive(Drop)]
 pub struct RequestFrame<A: Allocator = Global> {
     bytes: Vec<u8, A>,
@@ -37,9 +38,9 @@ impl<A: Allocator> Model for RequestFrame<A> {
     ghost invariant = { λ f. IsRequestFrame f.bytes.items (request_in f.bytes.items) };
 }
 
-/// The frame of a request that the machine has.
+/// The frame of a request that the machine has, written in place of what the room held.
 fn framed<A: Allocator>(
-    alloc: A,
+    room: Vec<u8, A>,
     request: &fk_wire::Request<'_>,
 ) -> Result<RequestFrame<A>, AllocError>
     requires { (body : Asked) × (body_in request.now.nodeid (request_content request.now.body) ≡ Some body)
@@ -47,7 +48,8 @@ fn framed<A: Allocator>(
     ensures { (body : Asked) → body_in request.now.nodeid (request_content request.now.body) ≡ Some body
         → IfOk result (λ frame. frame ≡ record { unique = request.now.unique; body = body }) }
 {
-    let mut bytes = Vec::new(alloc);
+    let mut bytes = room;
+    bytes.clear();
     match write_request(&mut bytes, request) {
         Ok(()) => Ok(RequestFrame { bytes }),
         Err(_) => Err(AllocError),
@@ -77,10 +79,17 @@ impl<A: Allocator> RequestFrame<A> {
         &self.bytes
     }
 
+    /// The frame's bytes, by value: their memory may be the room of another frame.
+    pub fn into_bytes(self) -> Vec<u8, A>
+        ensures { IsRequestFrame result.items self }
+    {
+        self.bytes
+    }
+
     /// INIT of the version that the kernel speaks, 7.31, with the flags that it offers, FUSE_ASYNC_READ,
     /// FUSE_DO_READDIRPLUS and FUSE_PARALLEL_DIROPS (uapi fuse.h). That its frame says so is in the invariant:
     /// `content_of` has what is written.
-    pub fn init(alloc: A, unique: u64) -> Result<RequestFrame<A>, AllocError>
+    pub fn init(room: Vec<u8, A>, unique: u64) -> Result<RequestFrame<A>, AllocError>
         ensures { IfOk result (λ frame. frame ≡ record { unique = unique; body = init init_flags }) }
     {
         let flags = InitFlags::ASYNC_READ
@@ -92,7 +101,7 @@ impl<A: Allocator> RequestFrame<A> {
             flags,
         };
         framed(
-            alloc,
+            room,
             &fk_wire::Request {
                 unique,
                 nodeid: 0,
@@ -103,7 +112,7 @@ impl<A: Allocator> RequestFrame<A> {
 
     /// The request that asks an operation, whose names and bytes are copied.
     pub fn asks(
-        alloc: A,
+        room: Vec<u8, A>,
         unique: u64,
         operation: &Operation<&[u8]>,
     ) -> Result<RequestFrame<A>, AllocError>
@@ -112,7 +121,7 @@ impl<A: Allocator> RequestFrame<A> {
         let nodeid = operation.header_node();
         let body = body_of(operation);
         framed(
-            alloc,
+            room,
             &fk_wire::Request {
                 unique,
                 nodeid,
@@ -122,12 +131,16 @@ impl<A: Allocator> RequestFrame<A> {
     }
 
     /// RELEASE of an open file.
-    pub fn release(alloc: A, unique: u64, opened: Opened) -> Result<RequestFrame<A>, AllocError>
+    pub fn release(
+        room: Vec<u8, A>,
+        unique: u64,
+        opened: Opened,
+    ) -> Result<RequestFrame<A>, AllocError>
         ensures { IfOk result (λ frame. frame ≡ record { unique = unique; body = release opened }) }
     {
         let body = RequestBody::Release { fh: opened.fh };
         framed(
-            alloc,
+            room,
             &fk_wire::Request {
                 unique,
                 nodeid: opened.nodeid,
@@ -136,12 +149,16 @@ impl<A: Allocator> RequestFrame<A> {
         )
     }
     /// INTERRUPT of the request that has this number.
-    pub fn interrupt(alloc: A, unique: u64, original: u64) -> Result<RequestFrame<A>, AllocError>
+    pub fn interrupt(
+        room: Vec<u8, A>,
+        unique: u64,
+        original: u64,
+    ) -> Result<RequestFrame<A>, AllocError>
         ensures { IfOk result (λ frame. frame ≡ record { unique = unique; body = interrupt original }) }
     {
         let body = RequestBody::Interrupt { unique: original };
         framed(
-            alloc,
+            room,
             &fk_wire::Request {
                 unique,
                 nodeid: 0,
@@ -164,19 +181,24 @@ impl<A: Allocator + Copy> RequestFrame<A> {
     {
         if pairs.len() == 1 {
             let (node, count) = pairs[0];
-            RequestFrame::forget(alloc, unique, node, count)
+            RequestFrame::forget(Vec::new(alloc), unique, node, count)
         } else {
             RequestFrame::batch_forget(alloc, unique, pairs)
         }
     }
 
     /// FORGET of this many lookups of a node.
-    fn forget(alloc: A, unique: u64, node: u64, count: u64) -> Result<RequestFrame<A>, AllocError>
+    fn forget(
+        room: Vec<u8, A>,
+        unique: u64,
+        node: u64,
+        count: u64,
+    ) -> Result<RequestFrame<A>, AllocError>
         ensures { IfOk result (λ frame. frame ≡ record { unique = unique; body = forget (node, count) }) }
     {
         let body = RequestBody::Forget { nlookup: count };
         framed(
-            alloc,
+            room,
             &fk_wire::Request {
                 unique,
                 nodeid: node,
@@ -195,11 +217,12 @@ impl<A: Allocator + Copy> RequestFrame<A> {
         ensures { IfOk result (λ frame. frame ≡ record { unique = unique; body = batch_forget pairs.now }) }
     {
         let bytes = pair_bytes(alloc, pairs)?;
+        let room = Vec::new(alloc);
         let body = RequestBody::BatchForget {
             pairs: Pairs::over(&bytes).unwrap(),
         };
         framed(
-            alloc,
+            room,
             &fk_wire::Request {
                 unique,
                 nodeid: 0,

@@ -69,4 +69,11 @@ impl<A: Allocator> Sent<A> {
     {
         self.frame.bytes()
     }
+
+    /// The frame's bytes, by value: their memory may be the room of another frame.
+    pub fn into_bytes(self) -> Vec<u8, A>
+        ensures { (opcode : Opcode) × IsReplyFrame opcode result.items (record { unique = self.unique; wire = self.wire }) }
+    {
+        self.frame.into_bytes()
+    }
 }

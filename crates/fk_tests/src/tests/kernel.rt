@@ -140,19 +140,6 @@ fn is_refused(given: Refusal, wanted: Reads) -> bool {
     matches!(wanted, Reads::Refused(refusal) if refusal == given)
 }
 
-/// What a step results in that gives a frame.
-fn read_as<A: Allocator>(
-    alloc: Global,
-    given: Result<RequestFrame<A>, Refusal>,
-    wanted: Reads,
-) -> Outcome {
-    match given {
-        Ok(frame) => judged(is_frame(alloc, &frame, wanted)),
-        Err(Refusal::NoMemory) => Outcome::NoMemory,
-        Err(refusal) => judged(is_refused(refusal, wanted)),
-    }
-}
-
 fn mounts<Q: RequestQueues, C: LookupCounts<Heap = Q::Heap>>(
     kernel: &mut KernelOf<Q, C>,
     wanted: Result<(), Refusal>,
@@ -175,13 +162,22 @@ fn begins<Q: RequestQueues, C: LookupCounts<Heap = Q::Heap>>(
     gives(kernel.begin(&call), wanted)
 }
 
+/// What a read comes to. Its frame is given back, so that the next one is written into its memory.
 fn reads_as<Q: RequestQueues, C: LookupCounts<Heap = Q::Heap>>(
     kernel: &mut KernelOf<Q, C>,
     alloc: Global,
     pick: Pick,
     wanted: Reads,
 ) -> Outcome {
-    read_as(alloc, kernel.read(pick), wanted)
+    match kernel.read(pick) {
+        Ok(frame) => {
+            let is_right = is_frame(alloc, &frame, wanted);
+            kernel.reuse(frame);
+            judged(is_right)
+        }
+        Err(Refusal::NoMemory) => Outcome::NoMemory,
+        Err(refusal) => judged(is_refused(refusal, wanted)),
+    }
 }
 
 /// A head, and a record this many times.

@@ -236,6 +236,7 @@ fn is_lost<S: NodeStore>(server: &mut ServerOf<S>, unique: u64, errno: u32) -> O
     }
 }
 
+/// What a further copy comes to. It is given back, so that the next reply is written into its memory.
 fn copies_again<S: NodeStore>(
     server: &mut ServerOf<S>,
     alloc: Global,
@@ -243,7 +244,11 @@ fn copies_again<S: NodeStore>(
     text: &str,
 ) -> Outcome {
     match server.again(unique) {
-        Ok(sent) => judged(spells(alloc, sent.bytes(), text)),
+        Ok(sent) => {
+            let is_right = spells(alloc, sent.bytes(), text);
+            server.reuse(sent);
+            judged(is_right)
+        }
         Err(Refusal::NoMemory) => Outcome::NoMemory,
         Err(_) => Outcome::Wrong,
     }

@@ -68,8 +68,9 @@ impl<T: Tables> SidesOf<T> {
                 return Err(refusal);
             }
         };
+        let copy = take_at(&mut self.replies, place);
+        self.server.reuse(copy);
         lemma_in_range(&self.kernel, &self.server);
-        let _copy = take_at(&mut self.replies, place);
         self.results.push_back_reserved(ReplyResult {
             number,
             unique,

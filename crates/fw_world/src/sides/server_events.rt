@@ -42,7 +42,8 @@ impl<T: Tables> SidesOf<T> {
                 return Err(refusal_of(fault));
             }
         };
-        let _request = take_at(&mut self.requests, place);
+        let request = take_at(&mut self.requests, place);
+        self.kernel.reuse(request);
         lemma_in_range(&self.kernel, &self.server);
         append_if_any(&mut self.replies, took.sent);
         Ok(Outcome::Taken {

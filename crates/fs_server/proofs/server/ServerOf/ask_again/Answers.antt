@@ -10,4 +10,4 @@ invariant_of-self-2 g c =
     let low = rw (← c.self.view_is) at c.requires in
     rw (c.put.ensures.entries, c.in-Ok.ensures.entries)
     (sent_again s.files s.held.entries s.kept.entries s.copies.entries s.next_copy s.validity c.self.invariant s.files
-    (failed eagain) c.new-2.result refl refl c.self.invariant.below low refl)
+    (failed eagain) c.new-3.result refl refl c.self.invariant.below low refl)

@@ -119,7 +119,7 @@ returns-clause-performed g c =
       c.put-2.ensures.entries,
       c.reserve_reply.ensures.kept,
       c.reserve_reply.ensures.copies,
-      c.new.ensures,
+      c.new-2.ensures,
       c.new-sent.ensures,
       c.copied.ensures.wire,
       up,

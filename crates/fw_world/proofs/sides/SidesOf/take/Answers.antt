@@ -23,15 +23,15 @@ returns-in-Err g c =
     (world_of c.self.inside.kernel c.self.inside.server c.self.inside.requests.items c.self.inside.replies.items c.self.inside.results.items) (c.lemma_in_range-in-Err.ensures (world_of c.self.inside.kernel c.self.inside.server c.self.inside.requests.items c.self.inside.replies.items c.self.inside.results.items) refl (sym c.in-Err.ensures.refused)) c.self.invariant c.args.place c.index.result.now c.bytes-bytes.result.now c.in-Err.fault there c.bytes-bytes.ensures c.in-Err.ensures.effect c.in-Err.ensures.can c.in-Err.ensures.memory))
 
 pub append_if_any-requires : goal.append_if_any-requires
-append_if_any-requires g c = let low = server_within (world_of c.self.inside.kernel c.take.new.self c.self.inside.requests.items c.self.inside.replies.items c.self.inside.results.items) (c.lemma_in_range-2.ensures (world_of c.self.inside.kernel c.take.new.self c.self.inside.requests.items c.self.inside.replies.items c.self.inside.results.items) refl refl) in
+append_if_any-requires g c = let low = server_within (world_of c.self.inside.kernel c.take.new.self c.self.inside.requests.items c.self.inside.replies.items c.self.inside.results.items) (c.lemma_in_range-2.ensures (world_of c.self.inside.kernel c.take.new.self c.self.inside.requests.items c.self.inside.replies.items c.self.inside.results.items) (sym c.reuse.ensures) refl) in
     answer_has_room c.self.inside.server c.bytes-bytes.result.now c.in-Ok.took c.take.new.self c.in-Ok.ensures.effect low (λ answers. c.reserve_answer.ensures.room c.if-not-reserve_answer.false answers)
 
 pub invariant_of-self-2 : goal.invariant_of-self-2
 invariant_of-self-2 g c = let there = slice_get_read c.self.inside.requests.items
     (length c.self.inside.requests.items) c.args.place c.index.result.now refl
     (omega (arith, c.if-place-len.false, c.len.ensures)) c.index.ensures in
-    (took (world_of c.self.inside.kernel c.self.inside.server c.self.inside.requests.items c.self.inside.replies.items c.self.inside.results.items) c.self.invariant c.self.inside.kernel c.take.new.self c.take_at-request.new.queue.items c.append_if_any.new.list.items c.self.inside.results.items c.args.place c.index.result.now c.bytes-bytes.result.now c.in-Ok.took
-    there c.bytes-bytes.ensures c.in-Ok.ensures.effect refl c.take_at-request.ensures.items
+    (took (world_of c.self.inside.kernel c.self.inside.server c.self.inside.requests.items c.self.inside.replies.items c.self.inside.results.items) c.self.invariant c.reuse.new.self c.take.new.self c.take_at-request.new.queue.items c.append_if_any.new.list.items c.self.inside.results.items c.args.place c.index.result.now c.bytes-bytes.result.now c.in-Ok.took
+    there c.bytes-bytes.ensures c.in-Ok.ensures.effect c.reuse.ensures c.take_at-request.ensures.items
     (rw (← c.reserve_answer.ensures.items) c.append_if_any.ensures) refl c.lemma_in_range-2.ensures).1
 
 pub returns : goal.returns
@@ -40,8 +40,8 @@ returns g c =
     (length c.self.inside.requests.items) c.args.place c.index.result.now refl
     (omega (arith, c.if-place-len.false, c.len.ensures)) c.index.ensures in
     rw (← c.self.view_is)
-    (took (world_of c.self.inside.kernel c.self.inside.server c.self.inside.requests.items c.self.inside.replies.items c.self.inside.results.items) c.self.invariant c.self.inside.kernel c.take.new.self c.take_at-request.new.queue.items c.append_if_any.new.list.items c.self.inside.results.items c.args.place c.index.result.now c.bytes-bytes.result.now c.in-Ok.took
-    there c.bytes-bytes.ensures c.in-Ok.ensures.effect refl c.take_at-request.ensures.items
+    (took (world_of c.self.inside.kernel c.self.inside.server c.self.inside.requests.items c.self.inside.replies.items c.self.inside.results.items) c.self.invariant c.reuse.new.self c.take.new.self c.take_at-request.new.queue.items c.append_if_any.new.list.items c.self.inside.results.items c.args.place c.index.result.now c.bytes-bytes.result.now c.in-Ok.took
+    there c.bytes-bytes.ensures c.in-Ok.ensures.effect c.reuse.ensures c.take_at-request.ensures.items
     (rw (← c.reserve_answer.ensures.items) c.append_if_any.ensures) refl c.lemma_in_range-2.ensures).0) tt ([], refl)
 
 pub returns-then-not-reserve_answer : goal.returns-then-not-reserve_answer

@@ -39,8 +39,8 @@ invariant_of-self-2 g c = let sent = c.index-copy.result.now in
     let took = reply_written_is (world_of c.self.inside.kernel c.self.inside.server c.self.inside.requests.items c.self.inside.replies.items c.self.inside.results.items) c.self.invariant c.args.place sent there c.bytes-2.result.now c.bytes-2.ensures.frame c.bytes-2.ensures.fits c.bytes-2.ensures.init c.bytes-2.ensures.empty c.in-Ok.written c.write.new.self
     (λ head none. let h = c.in-Ok.ensures.unawaited head none in (was_written h.0, h.1)) c.in-Ok.ensures.taken in
     let results = after_result c.self.inside.results.items c.reserve.new.self.items c.push_back_reserved.new.self.items c.number-number.result c.unique-unique.result c.in-Ok.written sent c.reserve.ensures.items c.push_back_reserved.ensures.items c.number-number.ensures c.unique-unique.ensures in
-    (wrote (world_of c.self.inside.kernel c.self.inside.server c.self.inside.requests.items c.self.inside.replies.items c.self.inside.results.items) c.self.invariant c.write.new.self c.self.inside.server c.self.inside.requests.items c.take_at-copy.new.queue.items c.push_back_reserved.new.self.items c.args.place sent c.in-Ok.written
-    there took refl refl c.take_at-copy.ensures.items results c.lemma_in_range-2.ensures).1
+    (wrote (world_of c.self.inside.kernel c.self.inside.server c.self.inside.requests.items c.self.inside.replies.items c.self.inside.results.items) c.self.invariant c.write.new.self c.reuse.new.self c.self.inside.requests.items c.take_at-copy.new.queue.items c.push_back_reserved.new.self.items c.args.place sent c.in-Ok.written
+    there took c.reuse.ensures refl c.take_at-copy.ensures.items results c.lemma_in_range-2.ensures).1
 
 pub returns : goal.returns
 returns g c =
@@ -51,12 +51,12 @@ returns g c =
     (λ head none. let h = c.in-Ok.ensures.unawaited head none in (was_written h.0, h.1)) c.in-Ok.ensures.taken in
     let results = after_result c.self.inside.results.items c.reserve.new.self.items c.push_back_reserved.new.self.items c.number-number.result c.unique-unique.result c.in-Ok.written sent c.reserve.ensures.items c.push_back_reserved.ensures.items c.number-number.ensures c.unique-unique.ensures in
     rw (← c.self.view_is, c.unique-unique.ensures)
-    (wrote (world_of c.self.inside.kernel c.self.inside.server c.self.inside.requests.items c.self.inside.replies.items c.self.inside.results.items) c.self.invariant c.write.new.self c.self.inside.server c.self.inside.requests.items c.take_at-copy.new.queue.items c.push_back_reserved.new.self.items c.args.place sent c.in-Ok.written
-    there took refl refl c.take_at-copy.ensures.items results c.lemma_in_range-2.ensures).0) tt
+    (wrote (world_of c.self.inside.kernel c.self.inside.server c.self.inside.requests.items c.self.inside.replies.items c.self.inside.results.items) c.self.invariant c.write.new.self c.reuse.new.self c.self.inside.requests.items c.take_at-copy.new.queue.items c.push_back_reserved.new.self.items c.args.place sent c.in-Ok.written
+    there took c.reuse.ensures refl c.take_at-copy.ensures.items results c.lemma_in_range-2.ensures).0) tt
     (let sent = c.index-copy.result.now in
     let there = slice_get_read c.self.inside.replies.items (length c.self.inside.replies.items) c.args.place sent refl
     (omega (arith, c.if-place-len.false, c.len.ensures)) c.index-copy.ensures in
-    rw (← c.self.view_is) (written_over (world_of c.self.inside.kernel c.self.inside.server c.self.inside.requests.items c.self.inside.replies.items c.self.inside.results.items) c.self.invariant c.args.place sent there c.bytes-2.result.now c.bytes-2.ensures.frame c.bytes-2.ensures.fits c.bytes-2.ensures.init c.bytes-2.ensures.empty (world_of c.write.new.self c.self.inside.server c.self.inside.requests.items c.take_at-copy.new.queue.items c.push_back_reserved.new.self.items)))
+    rw (← c.self.view_is) (written_over (world_of c.self.inside.kernel c.self.inside.server c.self.inside.requests.items c.self.inside.replies.items c.self.inside.results.items) c.self.invariant c.args.place sent there c.bytes-2.result.now c.bytes-2.ensures.frame c.bytes-2.ensures.fits c.bytes-2.ensures.init c.bytes-2.ensures.empty (world_of c.write.new.self c.reuse.new.self c.self.inside.requests.items c.take_at-copy.new.queue.items c.push_back_reserved.new.self.items)))
 
 pub push_back_reserved-requires : goal.push_back_reserved-requires
 push_back_reserved-requires g c = has_room c.reserve.result _ _ c.reserve.ensures.ok
