@@ -51,34 +51,27 @@ fn node_argument<'a>(alloc: Global) -> Arg<'a>
 pub fn check_command<'a>(alloc: Global) -> Result<Command<'a>, AllocError>
     ensures { IfOk result (IsCommand check_app) }
 {
-    let server = flag(alloc, "server", "Print and count the server's faults alone");
-    let kernel = flag(alloc, "kernel", "Print and count the kernel's faults alone");
-    let json = flag(alloc, "json", "Print one JSON object for each line");
-    let node = node_argument(alloc);
-    let summary = flag(
-        alloc,
-        "summary",
-        "Print a table of the opcodes that were read, in place of faults",
-    );
-    let strict = flag(
-        alloc,
-        "strict",
-        "Let the exit status count a warning as a fault",
-    );
-    let joined = flag(
-        alloc,
-        "joined",
-        "Judge a session from its middle on: print and count what is certain alone",
-    );
     Command::new(alloc, "check")
         .about("Judge a capture: which rule of the protocol is broken, in which line, and by whom")
-        .arg(server)?
-        .arg(kernel)?
-        .arg(json)?
-        .arg(node)?
-        .arg(summary)?
-        .arg(strict)?
-        .arg(joined)?
+        .arg(flag(alloc, "server", "Print and count the server's faults alone"))?
+        .arg(flag(alloc, "kernel", "Print and count the kernel's faults alone"))?
+        .arg(flag(alloc, "json", "Print one JSON object for each line"))?
+        .arg(node_argument(alloc))?
+        .arg(flag(
+            alloc,
+            "summary",
+            "Print a table of the opcodes that were read, in place of faults",
+        ))?
+        .arg(flag(
+            alloc,
+            "strict",
+            "Let the exit status count a warning as a fault",
+        ))?
+        .arg(flag(
+            alloc,
+            "joined",
+            "Judge a session from its middle on: print and count what is certain alone",
+        ))?
         .arg(capture_argument(alloc))
 }
 

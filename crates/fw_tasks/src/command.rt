@@ -53,39 +53,35 @@ pub fn is_memory(error: &Error) -> bool
 fn run_command<'a>(alloc: Global) -> Result<Command<'a>, AllocError>
     ensures { IfOk result (IsCommand run_app) }
 {
-    let hex = flag(
-        alloc,
-        "hex",
-        "Print each frame that is put, as a line of hex",
-    );
-    let file = needed(
-        alloc,
-        "FILE",
-        "The script: one event a line, or - for standard input",
-    );
     Command::new(alloc, "run")
         .about("Run a script of events and print what each comes to")
-        .arg(hex)?
-        .arg(file)
+        .arg(flag(
+            alloc,
+            "hex",
+            "Print each frame that is put, as a line of hex",
+        ))?
+        .arg(needed(
+            alloc,
+            "FILE",
+            "The script: one event a line, or - for standard input",
+        ))
 }
 
 fn socket_command<'a>(alloc: Global) -> Result<Command<'a>, AllocError>
     ensures { IfOk result (IsCommand socket_app) }
 {
-    let file = needed(
-        alloc,
-        "FILE",
-        "The script: one event a line, or - for standard input",
-    );
-    let path = needed(
-        alloc,
-        "SOCK",
-        "Where the socket is made, and removed at the end",
-    );
     Command::new(alloc, "socket")
         .about("Run a script over a Unix socket, both ends in this process")
-        .arg(file)?
-        .arg(path)
+        .arg(needed(
+            alloc,
+            "FILE",
+            "The script: one event a line, or - for standard input",
+        ))?
+        .arg(needed(
+            alloc,
+            "SOCK",
+            "Where the socket is made, and removed at the end",
+        ))
 }
 
 /// The program with one more command, where there is memory for both.

@@ -27,13 +27,12 @@ fn around_argument<'a>(alloc: Global) -> Arg<'a>
 pub fn draw_command<'a>(alloc: Global) -> Result<Command<'a>, AllocError>
     ensures { IfOk result (IsCommand draw_app) }
 {
-    let file = needed(
-        alloc,
-        "FILE",
-        "The script: one event a line, or - for standard input",
-    );
     Command::new(alloc, "draw")
         .about("Run a script of events and print the run as a picture, in SVG")
         .arg(around_argument(alloc))?
-        .arg(file)
+        .arg(needed(
+            alloc,
+            "FILE",
+            "The script: one event a line, or - for standard input",
+        ))
 }

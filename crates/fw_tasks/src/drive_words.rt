@@ -83,17 +83,18 @@ fn with_findings<'a>(alloc: Global, command: Command<'a>) -> Result<Command<'a>,
         → IsCommand (with_rule (with_rule (with_rule (app_of command.entry) (flag (codes "check")))
         (flag (codes "report-only"))) (option_or_none (codes "capture"))) all) }
 {
-    let check = flag(
-        alloc,
-        "check",
-        "Print each fault in what goes over the device, among the lines",
-    );
-    let reports = flag(
-        alloc,
-        "report-only",
-        "Exit with status 0 also where the server was wrong",
-    );
-    command.arg(check)?.arg(reports)?.arg(file_argument(alloc))
+    command
+        .arg(flag(
+            alloc,
+            "check",
+            "Print each fault in what goes over the device, among the lines",
+        ))?
+        .arg(flag(
+            alloc,
+            "report-only",
+            "Exit with status 0 also where the server was wrong",
+        ))?
+        .arg(file_argument(alloc))
 }
 
 /// The arguments of lines that are chosen.
@@ -103,35 +104,30 @@ fn with_draws<'a>(alloc: Global, command: Command<'a>) -> Result<Command<'a>, Al
         (flag (codes "any"))) (flag (codes "quick"))) (number (codes "seed") 0 last_node (codes "1")))
         (number (codes "events") 0 last_node (codes "400"))) all) }
 {
-    let random = flag(
-        alloc,
-        "random",
-        "Choose the events by a seed, in the place of FILE, and print them as a script",
-    );
-    let any = flag(
-        alloc,
-        "any",
-        "Choose also what Linux would not send, as CREATE of a name that is there",
-    );
-    let quick = flag(
-        alloc,
-        "quick",
-        "With --random: look over the tree at the end alone",
-    );
-    let seed = number_argument(alloc, "seed", "N", "1", "The seed of --random");
-    let events = number_argument(
-        alloc,
-        "events",
-        "N",
-        "400",
-        "How many events --random chooses",
-    );
     command
-        .arg(random)?
-        .arg(any)?
-        .arg(quick)?
-        .arg(seed)?
-        .arg(events)
+        .arg(flag(
+            alloc,
+            "random",
+            "Choose the events by a seed, in the place of FILE, and print them as a script",
+        ))?
+        .arg(flag(
+            alloc,
+            "any",
+            "Choose also what Linux would not send, as CREATE of a name that is there",
+        ))?
+        .arg(flag(
+            alloc,
+            "quick",
+            "With --random: look over the tree at the end alone",
+        ))?
+        .arg(number_argument(alloc, "seed", "N", "1", "The seed of --random"))?
+        .arg(number_argument(
+            alloc,
+            "events",
+            "N",
+            "400",
+            "How many events --random chooses",
+        ))
 }
 
 /// The arguments.
@@ -139,17 +135,17 @@ fn with_places<'a>(alloc: Global, command: Command<'a>) -> Result<Command<'a>, A
     ensures { IfOk result (λ both. (fields_of command.entry).has_globals ≡ false
         → IsCommand (with_rule (with_rule (app_of command.entry) (needed (codes "FILE"))) (new_rule (codes "SOCK"))) both) }
 {
-    let file = needed(
-        alloc,
-        "FILE",
-        "The script: the kernel's events, or calls, one a line",
-    );
-    let socket = optional(
-        alloc,
-        "SOCK",
-        "The socket on which the server listens, in the place of standard input and output",
-    );
-    command.arg(file)?.arg(socket)
+    command
+        .arg(needed(
+            alloc,
+            "FILE",
+            "The script: the kernel's events, or calls, one a line",
+        ))?
+        .arg(optional(
+            alloc,
+            "SOCK",
+            "The socket on which the server listens, in the place of standard input and output",
+        ))
 }
 
 /// The arguments of orders.
@@ -158,33 +154,26 @@ fn with_orders<'a>(alloc: Global, command: Command<'a>) -> Result<Command<'a>, A
         → IsCommand (with_rule (with_rule (with_rule (app_of command.entry) (flag (codes "orders")))
         (flag (codes "number"))) (number (codes "nth") 0 last_node (codes "0"))) all) }
 {
-    let orders = flag(
-        alloc,
-        "orders",
-        "Print every order of the messages of the calls in FILE, each as a script",
-    );
-    let number = flag(alloc, "number", "With --orders: print how many there are");
-    let nth = number_argument(
-        alloc,
-        "nth",
-        "K",
-        "0",
-        "With --orders: print this one, from 1; 0 for all",
-    );
-    command.arg(orders)?.arg(number)?.arg(nth)
+    command
+        .arg(flag(
+            alloc,
+            "orders",
+            "Print every order of the messages of the calls in FILE, each as a script",
+        ))?
+        .arg(flag(alloc, "number", "With --orders: print how many there are"))?
+        .arg(number_argument(
+            alloc,
+            "nth",
+            "K",
+            "0",
+            "With --orders: print this one, from 1; 0 for all",
+        ))
 }
 
 /// The command `drive`.
 pub fn drive_command<'a>(alloc: Global) -> Result<Command<'a>, AllocError>
     ensures { IfOk result (IsCommand drive_app) }
 {
-    let wait = time_argument(
-        alloc,
-        "wait",
-        1,
-        "10000",
-        "For how many milliseconds a reply is waited for, over SOCK",
-    );
     let command = Command::new(alloc, "drive")
         .about(
             "Drive a FUSE server by a script of the kernel's events, and print what each comes to",
@@ -210,7 +199,13 @@ pub fn drive_command<'a>(alloc: Global) -> Result<Command<'a>, AllocError>
             "Print each frame in words, on standard error",
         ))?
         .arg(flag(alloc, "json", "Print a JSON object for each line"))?
-        .arg(wait)?
+        .arg(time_argument(
+            alloc,
+            "wait",
+            1,
+            "10000",
+            "For how many milliseconds a reply is waited for, over SOCK",
+        ))?
         .arg(offer_argument(alloc))?;
     let command = with_draws(alloc, with_findings(alloc, command)?)?;
     with_places(alloc, with_orders(alloc, command)?)

@@ -80,16 +80,14 @@ fn asked_argument<'a>(alloc: Global) -> Arg<'a>
 pub fn frame_command<'a>(alloc: Global) -> Result<Command<'a>, AllocError>
     ensures { IfOk result (IsCommand frame_app) }
 {
-    let words = flag(alloc, "words", "Print the request's fields as well");
-    let any = flag(
-        alloc,
-        "any",
-        "Read a request of any opcode of FUSE 7.45, where INIT agreed on no flag, and print it in words",
-    );
     Command::new(alloc, "frame")
         .about("Read one request frame and print its opcode, unique, node and length")
-        .arg(words)?
-        .arg(any)?
+        .arg(flag(alloc, "words", "Print the request's fields as well"))?
+        .arg(flag(
+            alloc,
+            "any",
+            "Read a request of any opcode of FUSE 7.45, where INIT agreed on no flag, and print it in words",
+        ))?
         .arg(hex_argument(alloc))
 }
 
@@ -97,19 +95,17 @@ pub fn frame_command<'a>(alloc: Global) -> Result<Command<'a>, AllocError>
 pub fn reply_command<'a>(alloc: Global) -> Result<Command<'a>, AllocError>
     ensures { IfOk result (IsCommand reply_app) }
 {
-    let any = flag(
-        alloc,
-        "any",
-        "Read a reply to any opcode of FUSE 7.45, where INIT agreed on no flag",
-    );
-    let name = needed(alloc, "OPNAME", "The opcode of the request, as LOOKUP");
     Command::new(alloc, "reply")
         .about(
             "Read one reply frame and print its opcode, unique, error and length, and what it says",
         )
-        .arg(any)?
+        .arg(flag(
+            alloc,
+            "any",
+            "Read a reply to any opcode of FUSE 7.45, where INIT agreed on no flag",
+        ))?
         .arg(asked_argument(alloc))?
-        .arg(name)?
+        .arg(needed(alloc, "OPNAME", "The opcode of the request, as LOOKUP"))?
         .arg(hex_argument(alloc))
 }
 

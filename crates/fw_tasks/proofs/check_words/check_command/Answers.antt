@@ -8,13 +8,13 @@ use Rattle.fw_tasks.proofs.check_words.check_command.Goals as goal
 
 pub returns : goal.returns
 returns c =
-    let server_is : IsArgument (flag (codes "server")) c.flag-server.result = search rules in
-    let kernel_is : IsArgument (flag (codes "kernel")) c.flag-kernel.result = search rules in
-    let json_is : IsArgument (flag (codes "json")) c.flag-json.result = search rules in
-    let node_is : IsArgument (number (codes "node") 0 last_node (codes "0")) c.node_argument-node.result = search rules in
-    let summary_is : IsArgument (flag (codes "summary")) c.flag-summary.result = search rules in
-    let strict_is : IsArgument (flag (codes "strict")) c.flag-strict.result = search rules in
-    let joined_is : IsArgument (flag (codes "joined")) c.flag-joined.result = search rules in
+    let server_is : IsArgument (flag (codes "server")) c.flag.result = search rules in
+    let kernel_is : IsArgument (flag (codes "kernel")) c.flag-2.result = search rules in
+    let json_is : IsArgument (flag (codes "json")) c.flag-3.result = search rules in
+    let node_is : IsArgument (number (codes "node") 0 last_node (codes "0")) c.node_argument.result = search rules in
+    let summary_is : IsArgument (flag (codes "summary")) c.flag-4.result = search rules in
+    let strict_is : IsArgument (flag (codes "strict")) c.flag-5.result = search rules in
+    let joined_is : IsArgument (flag (codes "joined")) c.flag-6.result = search rules in
     let file_is : IsArgument (new_rule (codes "FILE")) c.capture_argument.result = search rules in
     let new_is : IsCommand (new_app (codes "check")) c.new.result = search rules in
     let about_is = with_about _ _ c.about.result _ c.about.ensures new_is in

@@ -8,7 +8,7 @@ use Rattle.fw_tasks.proofs.drive_words.drive_command.Goals as goal
 
 pub returns : goal.returns
 returns c =
-    let wait_is : IsArgument (number (codes "wait") 1 longest (codes "10000")) c.time_argument-wait.result = search rules in
+    let wait_is : IsArgument (number (codes "wait") 1 longest (codes "10000")) c.time_argument.result = search rules in
     let offer_is : IsArgument (option (codes "offer") (codes "0")) c.offer_argument.result = search rules in
     let calls_is : IsArgument (flag (codes "calls")) c.flag.result = search rules in
     let beside_is : IsArgument (flag (codes "beside")) c.flag-2.result = search rules in

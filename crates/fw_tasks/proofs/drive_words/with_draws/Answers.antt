@@ -7,11 +7,11 @@ use Rattle.fw_tasks.proofs.drive_words.with_draws.Goals as goal
 
 pub returns : goal.returns
 returns c =
-    let random_is : IsArgument (flag (codes "random")) c.flag-random.result = search rules in
-    let any_is : IsArgument (flag (codes "any")) c.flag-any.result = search rules in
-    let quick_is : IsArgument (flag (codes "quick")) c.flag-quick.result = search rules in
-    let seed_is : IsArgument (number (codes "seed") 0 last_node (codes "1")) c.number_argument-seed.result = search rules in
-    let events_is : IsArgument (number (codes "events") 0 last_node (codes "400")) c.number_argument-events.result = search rules in
+    let random_is : IsArgument (flag (codes "random")) c.flag.result = search rules in
+    let any_is : IsArgument (flag (codes "any")) c.flag-2.result = search rules in
+    let quick_is : IsArgument (flag (codes "quick")) c.flag-3.result = search rules in
+    let seed_is : IsArgument (number (codes "seed") 0 last_node (codes "1")) c.number_argument.result = search rules in
+    let events_is : IsArgument (number (codes "events") 0 last_node (codes "400")) c.number_argument-2.result = search rules in
     IfOk-weaker c.arg-5.result _ _ (λ all adds local. adds_argument _ _ _ all _
     (adds_argument _ _ _ _ _ (adds_argument _ _ _ _ _ (adds_argument _ _ _ _ _ (adds_argument _ _ c.args.command _ _
     (refl, local) random_is c.in_ok-arg.ensures) any_is c.in_ok-arg-2.ensures) quick_is c.in_ok-arg-3.ensures) seed_is
