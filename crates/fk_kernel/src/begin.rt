@@ -1,8 +1,8 @@
 //! How a call begins.
 
-ghost use Rattle.std.specs.Prelude.{length, ◌≡◌, ◌<◌, ◌+◌, None, Ok, OnOk, OnErr, IfOk, IfErr, true, false, cond, nat_eq};
+ghost use Rattle.std.specs.Prelude.{length, ◌≡◌, ◌<◌, ◌≤◌, ◌+◌, None, Ok, OnOk, OnErr, IfOk, IfErr, true, false, cond, nat_eq};
 ghost use Rattle.fuse_spec.specs.Kernel.Uniques.{numbers_left_from};
-ghost use Rattle.fuse_spec.specs.declared.Opened.{Opened};
+ghost use Rattle.fuse_spec.specs.declared.Opened.{Opened as OpenedFile};
 ghost use Rattle.fuse_spec.specs.Kernel.Kernel.{is_aborted, call_begun, call_put};
 ghost use Rattle.fuse_spec.specs.Kernel.Refusals.{is_ready, or_no_memory};
 ghost use Rattle.fuse_spec.specs.Calls.Vfs.{CallState as State, begun, asking, answered, numbered};
@@ -10,6 +10,7 @@ ghost use Rattle.fk_syscalls.specs.Values.{comes_to, call_of, answer_of, ClosesN
 ghost use Rattle.fk_kernel.specs.Refused.{begin_refusal, begun_refusal};
 ghost use Rattle.fuse_spec.specs.Kernel.QueueCalls.{after_enqueue};
 ghost use Rattle.fuse_spec.specs.Values.Numbers.{counter_end, max_calls};
+ghost use Rattle.fk_queues.specs.Room.{KeepsRoom};
 
 use crate::kernel::KernelOf;
 use crate::queue_room::reserve_request;
@@ -19,7 +20,44 @@ use fk_queues::QueueTable;
 use fk_syscalls::{Answer, Call, CallState, Next, begin};
 use fuse_spec::errno::ENOTCONN;
 use fuse_spec::limits::{COUNTER_END, MAX_CALLS};
-use fuse_spec::{Purpose, Refusal};
+use fuse_spec::{Opened, Purpose, Refusal};
+use fuse_tables::Table;
+
+/// Makes room for one call more and its request, which has a number, and for the answer of each call.
+///
+/// # Errors
+///
+/// `Exhausted` where no number is left; then `NoMemory`. Only room was made.
+#[inline(always)]
+fn reserve_call<Q: QueueTable<Purpose>>(
+    calls: &mut Table<CallState<Q::Heap>, Q::Heap>,
+    answers: &mut Table<StoredAnswer<Q::Heap>, Q::Heap>,
+    queues: &mut Q,
+    closing: &Table<Opened, Q::Heap>,
+) -> Result<(), Refusal>
+    ensures calls { calls.new.entries ≡ calls.old.entries }
+    ensures answers { answers.new.entries ≡ answers.old.entries }
+    ensures state { Q.state queues.new ≡ Q.state queues.old }
+    ensures answers_kept { answers.old.room ≤ answers.new.room }
+    ensures queues_kept { KeepsRoom (Q.room queues.old) (Q.room queues.new) }
+    ensures calls_room { OnOk result (1 ≤ calls.new.room) }
+    ensures answers_room { OnOk result (max_calls ≤ answers.new.room) }
+    ensures queues_room { OnOk result (length closing.now.entries + 1 ≤ (Q.room queues.new).requests) }
+    ensures refusal { IfErr result (λ refusal. refusal
+        ≡ cond (nat_eq (numbers_left_from (Q.state queues.old).next) 0) Refusal.Exhausted Refusal.NoMemory) }
+    ensures left { OnOk result (0 < numbers_left_from (Q.state queues.old).next) }
+{
+    if queues.numbers_left() == 0 {
+        return Err(Refusal::Exhausted);
+    }
+    let Ok(()) = answers.reserve(MAX_CALLS) else {
+        return Err(Refusal::NoMemory);
+    };
+    let Ok(()) = calls.reserve(1) else {
+        return Err(Refusal::NoMemory);
+    };
+    reserve_request(queues, closing)
+}
 
 impl<Q: QueueTable<Purpose>, C: CountTable<Heap = Q::Heap>> KernelOf<Q, C> {
     /// Begins a call and gives its number. It is answered at once, or its first request is queued. Where files may not
@@ -79,7 +117,7 @@ impl<Q: QueueTable<Purpose>, C: CountTable<Heap = Q::Heap>> KernelOf<Q, C> {
         requires closes_none { ClosesNone call.now }
         ensures begun { IfOk result (λ next. begun (is_aborted self.now.phase) self.now.vfs (call_of call.now)
             ≡ comes_to (numbered self.now.vfs) self.now.vfs.next_call next) }
-        ensures asks { OnErr result ((state : State Opened)
+        ensures asks { OnErr result ((state : State OpenedFile)
             × (begun (is_aborted self.now.phase) self.now.vfs (call_of call.now)
             ≡ asking (numbered self.now.vfs) self.now.vfs.next_call state)) }
         ensures refusal { IfErr result (λ refusal. refusal
@@ -138,16 +176,8 @@ impl<Q: QueueTable<Purpose>, C: CountTable<Heap = Q::Heap>> KernelOf<Q, C> {
             (Purpose.Call self.old.vfs.next_call)) }
         ensures same { OnOk result (self.new ≡ record self.old { vfs = self.new.vfs; queues = self.new.queues }) }
     {
-        if self.queues.numbers_left() == 0 {
-            return Err(Refusal::Exhausted);
-        }
-        let Ok(()) = self.answers.reserve(MAX_CALLS) else {
-            return Err(Refusal::NoMemory);
-        };
-        let Ok(()) = self.calls.reserve(1) else {
-            return Err(Refusal::NoMemory);
-        };
-        reserve_request(&mut self.queues, &self.closing)?;
+        let (calls, answers) = (&mut self.calls, &mut self.answers);
+        reserve_call(calls, answers, &mut self.queues, &self.closing)?;
         let call = self.next_call;
         let _unique = self.queues.enqueue(Purpose::Call(call));
         self.calls.put(call, state);
