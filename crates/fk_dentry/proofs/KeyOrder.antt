@@ -1,32 +1,14 @@
 -- What the order of keys tells apart.
-use Rattle.std.proofs.Common.{◌≡◌, ℕ, Bool, false, List, refl, sym, ap, ◌∙◌, Less, Equal, Greater}
+use Rattle.std.proofs.Common.{◌≡◌, ℕ, Bool, List, refl, ap, ◌∙◌, Less, Equal, Greater}
 use Rattle.std.specs.declared.cmp.Ordering.{Ordering}
 use Rattle.std.specs.Ordering.{nat_cmp, is_eq, eq_by_cmp, ordering_then}
 use Rattle.std.specs.Cmp.Lexicographic.{slice_cmp}
-use Rattle.std.specs.FinMap.{nat_cmp-IsAntisymmetric, slice_cmp-IsAntisymmetric}
 use Rattle.fuse_spec.specs.Values.Maps.{Place}
-use Rattle.fuse_spec.proofs.Tables.{cmp_same}
-use Rattle.fk_dentry.specs.Keys.{front_of, is_of, key_cmp, parts_cmp, parts_of}
+use Rattle.fuse_tables.specs.NameFronts.{front_of}
+use Rattle.fuse_tables.proofs.NameFronts.{by_front}
+use Rattle.fk_dentry.specs.Keys.{is_of, key_cmp, parts_cmp, parts_of}
 
 -- It tells the same apart as the order of names does.
-never : (x r : Ordering) → is_eq r ≡ false → is_eq (ordering_then x r) ≡ false
-never Less r e = refl
-never Equal r e = e
-never Greater r e = refl
-
-by_front : (a b : List ℕ) → is_eq (ordering_then (nat_cmp (front_of a) (front_of b)) (slice_cmp nat_cmp a b))
-    ≡ is_eq (slice_cmp nat_cmp a b)
-by_front a b = by (slice_cmp nat_cmp a b) refl
-  where
-    by : (r : Ordering) → slice_cmp nat_cmp a b ≡ r
-        → is_eq (ordering_then (nat_cmp (front_of a) (front_of b)) r) ≡ is_eq r
-    by Less e = never (nat_cmp (front_of a) (front_of b)) Less refl
-    by Greater e = never (nat_cmp (front_of a) (front_of b)) Greater refl
-    by Equal e =
-        let same : a ≡ b = slice_cmp-IsAntisymmetric nat_cmp-IsAntisymmetric a b e in
-        ap (λ (o : Ordering). is_eq (ordering_then o Equal))
-        (ap (λ (l : List ℕ). nat_cmp (front_of a) (front_of l)) (sym same) ∙ cmp_same (front_of a))
-
 behind : (x r s : Ordering) → is_eq r ≡ is_eq s → is_eq (ordering_then x r) ≡ is_eq (ordering_then x s)
 behind Less r s e = refl
 behind Equal r s e = e

@@ -9,7 +9,8 @@ use Rattle.std.specs.FinMap.Entries.{is_sorted-put, is_sorted-where_key, same_en
 use Rattle.fuse_spec.specs.declared.Dentry.{Dentry}
 use Rattle.fuse_spec.specs.Values.Maps.{Place, place_cmp, get_name, put_name, remove_name}
 use Rattle.fuse_spec.proofs.Tables.{place_total, name_put, name_gone}
-use Rattle.fk_dentry.specs.Keys.{front_of, is_of}
+use Rattle.fuse_tables.specs.NameFronts.{front_of}
+use Rattle.fk_dentry.specs.Keys.{is_of}
 use Rattle.fk_dentry.specs.Rows.{slots_of}
 use Rattle.fk_dentry.proofs.KeyOrder.{both_tests, key_test, test_by, test_of}
 use Rattle.fk_dentry.proofs.PlaceOrder.{place_same, tied}

@@ -1,19 +1,11 @@
 -- Names of directories as keys of an ordered map.
-use Rattle.std.specs.Prelude.{ℕ, ◌+◌, ◌*◌, ◌%◌, ◌^◌, Bool, List, [], ◌∷◌, take}
+use Rattle.std.specs.Prelude.{ℕ, Bool, List}
 use Rattle.std.specs.declared.cmp.Ordering.{Ordering}
 use Rattle.std.specs.Ordering.{eq_by_cmp, nat_cmp, ordering_then}
 use Rattle.std.specs.Cmp.{IsTotalOrder, nat_cmp_total, on_total, then_total}
 use Rattle.std.specs.Cmp.Lexicographic.{slice_cmp, nat_list_cmp_total}
 use Rattle.fuse_spec.specs.Values.Maps.{Place, place_cmp}
-
--- the number of these bytes, behind this one
-abbrev pub number_behind : ℕ → List ℕ → ℕ
-number_behind n [] = n
-number_behind n (b ∷ bs) = number_behind (((n * 256) % 2 ^ 64 + b) % 2 ^ 64) bs
-
--- of the first eight
-unfoldable pub front_of : List ℕ → ℕ
-front_of name = number_behind 0 (take 8 name)
+use Rattle.fuse_tables.specs.NameFronts.{front_of}
 
 -- the directory, the number of the first bytes and all of them, in that order
 abbrev pub parts_of : Place → ℕ × ℕ × List ℕ

@@ -2,23 +2,13 @@
 ghost use Rattle.std.specs.Prelude.{◌≡◌};
 ghost use Rattle.std.specs.Ordering.{nat_cmp};
 ghost use Rattle.std.specs.Cmp.Lexicographic.{slice_cmp};
-ghost use Rattle.fk_dentry.specs.Keys.{front_of};
+ghost use Rattle.fuse_tables.specs.NameFronts.{front_of};
 
+use fuse_tables::front_of;
 use std::alloc::Allocator;
 use std::cmp::Ordering;
 use std::collections::btree_map::Comparable;
 use std::marker::Model;
-
-/// The number of a name's first eight bytes.
-pub(crate) fn front_of(name: &[u8]) -> u64
-    ensures { result ≡ front_of name.now }
-{
-    let mut front = 0_u64;
-    for byte in &name[..8_usize.min(name.len())] {
-        front = front.wrapping_mul(256).wrapping_add(*byte as u64);
-    }
-    front
-}
 
 /// A name of a directory. Keys stand in the order of the directories, then of the number of the name's first eight bytes, so
 /// that most differ without a look at the name, and then of all its bytes.
@@ -33,7 +23,7 @@ impl<A: Allocator> Model for NameKey<A> {
     ghost use Rattle.std.specs.Prelude.{◌≡◌};
     ghost use Rattle.fuse_spec.specs.Values.Maps.{Place};
     ghost use Rattle.fk_dentry.specs.CachedNames.{place_code};
-    ghost use Rattle.fk_dentry.specs.Keys.{front_of};
+    ghost use Rattle.fuse_tables.specs.NameFronts.{front_of};
 
     ghost Value = { Place };
 

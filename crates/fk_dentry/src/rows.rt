@@ -3,8 +3,9 @@ ghost use Rattle.std.specs.Prelude.{◌≡◌, [], None, Some, IfNone, IfSome, I
 ghost use Rattle.fuse_spec.specs.Values.Maps.{get_name, put_name, remove_name};
 ghost use Rattle.fk_dentry.specs.Rows.{slots_of, bound_in, bound_names};
 
-use crate::key::{LentKey, NameKey, front_of};
+use crate::key::{LentKey, NameKey};
 use fuse_spec::Dentry;
+use fuse_tables::front_of;
 use std::alloc::{AllocError, Allocator};
 use std::collections::BTreeMap;
 

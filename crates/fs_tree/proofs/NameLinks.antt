@@ -1,9 +1,9 @@
 -- The names in one directory by cookie, and their links by name.
-use Rattle.std.proofs.Common.{◌≡◌, ℕ, ◌+◌, ◌<◌, ◌≤◌, Bool, true, false, not, cond, ◌&&◌, List, [], ◌∷◌, ◌++◌, map, filter, find, Option, Some, None, refl, sym, ap, subst, ◌∙◌, nat_eq, nat_lt, nat_le, ◌-◌, arith, Vec, Less, Equal, Greater}
+use Rattle.std.proofs.Common.{◌≡◌, ℕ, ◌+◌, ◌<◌, ◌≤◌, Bool, true, false, not, cond, ◌&&◌, List, [], ◌∷◌, ◌++◌, map, filter, find, Option, Some, None, refl, sym, ap, subst, ◌∙◌, nat_eq, nat_lt, nat_le, ◌-◌, arith, Less, Equal, Greater}
 use Rattle.std.specs.Option.{option_map}
-use Rattle.std.specs.Ordering.{nat_cmp, is_lt, eq_by_cmp}
+use Rattle.std.specs.Ordering.{nat_cmp, is_lt}
 use Rattle.std.specs.Cmp.{ranked}
-use Rattle.std.specs.Cmp.Lexicographic.{slice_cmp, texts_ties}
+use Rattle.std.specs.Cmp.Lexicographic.{texts_ties}
 use Rattle.std.specs.List.{AllByRecursion}
 use Rattle.std.specs.List.Sorted.{IsStrictlySortedBy}
 use Rattle.std.specs.Map.{lookup, keys_of, KeepsOthers}
@@ -21,6 +21,7 @@ use Rattle.fs_tree.proofs.ByDirectory.{filter-append, filter-none}
 use Rattle.fs_tree.proofs.EntryRows.{same_name-swap}
 use Rattle.fs_tree.proofs.ByCookie.{same_name-equal, find-where-none, find-append-none, find-gone}
 use Rattle.fs_tree.proofs.CookieRows.{put-last, put-undone}
+use Rattle.fs_tree.proofs.KeyOrder.{ties}
 
 some_entry : (x y : Entry) → Some x ≡ Some y → x ≡ y
 some_entry x y e = cc
@@ -206,66 +207,56 @@ apart_names name other apart e at = ap (λ n. same_name n name)
 -- ---- links
 
 -- the order of names ties exactly where they are the same
-abbrev ties : List ℕ → List ℕ → Bool
-ties a b = eq_by_cmp (slice_cmp nat_cmp) a b
-
 one_name : (a b : List ℕ) → ties a b ≡ true → a ≡ b
 one_name a b tied = same_name-equal a b (texts_ties a b ∙ tied)
 
-module _ {A : Type 0} where
-  abbrev key_eq : Vec ℕ A → Vec ℕ A → Bool
-  key_eq a b = ties a.items b.items
+-- another name leads where it led
+others-kept : (name other : List ℕ) (old new : List (List ℕ × Link)) → KeepsOthers ties (ties name) old new
+    → same_name name other ≡ false → lookup (ties other) new ≡ lookup (ties other) old
+unfolding KeepsOthers
+others-kept name other old new kept apart =
+    kept (ties other) (λ x y at. ap (λ n. ties n y) (one_name other x at))
+    (λ k at. ap (λ n. ties other n) (sym (one_name name k at)) ∙ sym (texts_ties other name)
+    ∙ same_name-swap other name ∙ apart)
 
-  abbrev sought : List ℕ → Vec ℕ A → Bool
-  sought name k = ties name k.items
+pub AreLinked-removed : (name : List ℕ) (old new : List (List ℕ × Link)) (es : List Entry)
+    → KeepsOthers ties (ties name) old new → lookup (ties name) new ≡ None
+    → AreLinked old es → AreLinked new (filter (λ e. not (same_name e.name name)) es)
+AreLinked-removed name old new es kept none linked = λ n. by n (same_name name n) refl
+  where
+    by : (n : List ℕ) (b : Bool) → same_name name n ≡ b
+        → link_in new n ≡ option_map entry_link (find (λ e. same_name e.name n)
+        (filter (λ e. not (same_name e.name name)) es))
+    by n true at =
+        let one : name ≡ n = same_name-equal name n at in
+        subst (λ m. link_in new m ≡ option_map entry_link
+        (find (λ e. same_name e.name m) (filter (λ e. not (same_name e.name name)) es))) one
+        (ap (option_map link_of) none ∙ sym (ap (option_map entry_link) (find-gone (λ e. same_name e.name name) es)))
+    by n false apart =
+        ap (option_map link_of) (others-kept name n old new kept apart) ∙ linked n
+        ∙ sym (ap (option_map entry_link) (find-kept (λ e. same_name e.name n) (λ e. same_name e.name name)
+        (apart_names name n apart) es))
 
-  -- another name leads where it led
-  others-kept : (name other : List ℕ) (old new : List (Vec ℕ A × Link)) → KeepsOthers key_eq (sought name) old new
-      → same_name name other ≡ false → lookup (sought other) new ≡ lookup (sought other) old
-  unfolding KeepsOthers
-  others-kept name other old new kept apart =
-      kept (sought other) (λ x y at. ap (λ n. ties n y.items) (one_name other x.items at))
-      (λ k at. ap (λ n. ties other n) (sym (one_name name k.items at)) ∙ sym (texts_ties other name)
-      ∙ same_name-swap other name ∙ apart)
-
-  pub AreLinked-removed : (name : List ℕ) (old new : List (Vec ℕ A × Link)) (es : List Entry)
-      → KeepsOthers key_eq (sought name) old new → lookup (sought name) new ≡ None
-      → AreLinked old es → AreLinked new (filter (λ e. not (same_name e.name name)) es)
-  AreLinked-removed name old new es kept none linked = λ n. by n (same_name name n) refl
-    where
-      by : (n : List ℕ) (b : Bool) → same_name name n ≡ b
-          → link_in new n ≡ option_map entry_link (find (λ e. same_name e.name n)
-          (filter (λ e. not (same_name e.name name)) es))
-      by n true at =
-          let one : name ≡ n = same_name-equal name n at in
-          subst (λ m. link_in new m ≡ option_map entry_link
-          (find (λ e. same_name e.name m) (filter (λ e. not (same_name e.name name)) es))) one
-          (ap (option_map link_of) none ∙ sym (ap (option_map entry_link) (find-gone (λ e. same_name e.name name) es)))
-      by n false apart =
-          ap (option_map link_of) (others-kept name n old new kept apart) ∙ linked n
-          ∙ sym (ap (option_map entry_link) (find-kept (λ e. same_name e.name n) (λ e. same_name e.name name)
-          (apart_names name n apart) es))
-
-  pub AreLinked-put : (x : Entry) (l : Link) (old new : List (Vec ℕ A × Link)) (es : List Entry) → l.file ≡ x.file
-      → l.cookie ≡ x.cookie → KeepsOthers key_eq (sought x.name) old new → lookup (sought x.name) new ≡ Some l
-      → AreLinked old es → AreLinked new (filter (λ e. not (same_name e.name x.name)) es ++ x ∷ [])
-  AreLinked-put x l old new es same_file same_cookie kept here linked = λ n. by n (same_name x.name n) refl
-    where
-      by : (n : List ℕ) (b : Bool) → same_name x.name n ≡ b
-          → link_in new n ≡ option_map entry_link (find (λ e. same_name e.name n)
-          (filter (λ e. not (same_name e.name x.name)) es ++ x ∷ []))
-      by n true at =
-          let one : x.name ≡ n = same_name-equal x.name n at in
-          let last = find-append-last (λ e. same_name e.name x.name) (filter (λ e. not (same_name e.name x.name)) es) x
-          (find-gone (λ e. same_name e.name x.name) es) (same_itself x.name) in
-          subst (λ m. link_in new m ≡ option_map entry_link
-          (find (λ e. same_name e.name m) (filter (λ e. not (same_name e.name x.name)) es ++ x ∷ []))) one
-          (ap (option_map link_of) here ∙ rw (same_file, same_cookie) refl ∙ sym (ap (option_map entry_link) last))
-      by n false apart =
-          ap (option_map link_of) (others-kept x.name n old new kept apart) ∙ linked n
-          ∙ sym (ap (option_map entry_link) (find-append-other (λ e. same_name e.name n)
-          (filter (λ e. not (same_name e.name x.name)) es) x apart
-          ∙ find-kept (λ e. same_name e.name n) (λ e. same_name e.name x.name) (apart_names x.name n apart) es))
+pub AreLinked-put : (x : Entry) (l : Link) (old new : List (List ℕ × Link)) (es : List Entry) → l.file ≡ x.file
+    → l.cookie ≡ x.cookie → KeepsOthers ties (ties x.name) old new → lookup (ties x.name) new ≡ Some l
+    → AreLinked old es → AreLinked new (filter (λ e. not (same_name e.name x.name)) es ++ x ∷ [])
+AreLinked-put x l old new es same_file same_cookie kept here linked = λ n. by n (same_name x.name n) refl
+  where
+    by : (n : List ℕ) (b : Bool) → same_name x.name n ≡ b
+        → link_in new n ≡ option_map entry_link (find (λ e. same_name e.name n)
+        (filter (λ e. not (same_name e.name x.name)) es ++ x ∷ []))
+    by n true at =
+        let one : x.name ≡ n = same_name-equal x.name n at in
+        let last = find-append-last (λ e. same_name e.name x.name) (filter (λ e. not (same_name e.name x.name)) es) x
+        (find-gone (λ e. same_name e.name x.name) es) (same_itself x.name) in
+        subst (λ m. link_in new m ≡ option_map entry_link
+        (find (λ e. same_name e.name m) (filter (λ e. not (same_name e.name x.name)) es ++ x ∷ []))) one
+        (ap (option_map link_of) here ∙ rw (same_file, same_cookie) refl ∙ sym (ap (option_map entry_link) last))
+    by n false apart =
+        ap (option_map link_of) (others-kept x.name n old new kept apart) ∙ linked n
+        ∙ sym (ap (option_map entry_link) (find-append-other (λ e. same_name e.name n)
+        (filter (λ e. not (same_name e.name x.name)) es) x apart
+        ∙ find-kept (λ e. same_name e.name n) (λ e. same_name e.name x.name) (apart_names x.name n apart) es))
 
 module _ {A : Type 0} (name : List ℕ) (es : List (ℕ × NamedFile A)) (once : AreNamedOnce (map leaf_entry es))
     (sorted : IsStrictlySortedBy nat_cmp (keys_of es)) where

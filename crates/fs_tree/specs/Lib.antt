@@ -1,3 +1,4 @@
+pub mod Keys
 pub mod EntryViews
 pub mod Outcomes
 pub mod Stored

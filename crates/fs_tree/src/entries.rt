@@ -13,6 +13,7 @@ ghost use Rattle.fs_tree.specs.Stored.{AreBefore, files_led, fitting_with, in_di
 ghost use Rattle.fs_tree.specs.Views.{lead_of};
 
 use crate::files::Files;
+use crate::key::{LentKey, NameKey};
 use crate::listing::{ENTRY_LEN, MOST_LISTED, Record, record_len};
 use arrayvec::ArrayVec;
 use fuse_spec::is_dots;
@@ -48,7 +49,7 @@ pub(crate) struct NamedFile<A: Allocator> {
 #[derive(Drop)]
 pub(crate) struct Entries<A: Allocator> {
     names: BTreeMap<u64, NamedFile<A>, A>,
-    links: BTreeMap<Vec<u8, A>, Link, A>,
+    links: BTreeMap<NameKey<A>, Link, A>,
     alloc: A,
 }
 
@@ -89,7 +90,7 @@ impl<A: Allocator + Copy> Entries<A> {
     pub(crate) fn file_at(&self, name: &[u8]) -> Option<u64>
         ensures { result ≡ option_map (λ e. e.file) (find (λ e. same_name e.name name.now) self.now) }
     {
-        match self.links.get(name) {
+        match self.links.get(LentKey::of(name)) {
             Some(link) => Some(link.file),
             None => None,
         }
@@ -99,7 +100,7 @@ impl<A: Allocator + Copy> Entries<A> {
     pub(crate) fn cookie_at(&self, name: &[u8]) -> Option<u64>
         ensures { result ≡ option_map (λ e. e.cookie) (find (λ e. same_name e.name name.now) self.now) }
     {
-        match self.links.get(name) {
+        match self.links.get(LentKey::of(name)) {
             Some(link) => Some(link.cookie),
             None => None,
         }
@@ -110,7 +111,7 @@ impl<A: Allocator + Copy> Entries<A> {
         ensures { self.new ≡ filter (λ e. not (same_name e.name name.now)) self.old }
     {
         let cookie = self.cookie_at(name);
-        let _link = self.links.remove(name);
+        let _link = self.links.remove(LentKey::of(name));
         take_away(&mut self.names, cookie);
     }
 
@@ -127,7 +128,7 @@ impl<A: Allocator + Copy> Entries<A> {
             file: link.file,
         };
         let _none = self.names.insert(link.cookie, leaf)?;
-        match self.links.insert(name, link) {
+        match self.links.insert(NameKey::new(name), link) {
             Ok(replaced) => {
                 take_away(&mut self.names, cookie_of(replaced));
                 Ok(())

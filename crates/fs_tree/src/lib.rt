@@ -11,6 +11,7 @@ mod directories;
 mod entries;
 mod error;
 mod files;
+mod key;
 mod listing;
 mod names;
 mod operations;

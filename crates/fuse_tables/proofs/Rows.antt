@@ -282,6 +282,12 @@ module _ {V : Type 0} where
   none_past rows key place h at end = let there : slice_get rows (place_of key rows) ≡ None =
       rw (← at) (slice_get_past rows place (omega arith)) in found_is rows key h ∙ ap (found key) there
 
+  -- a key above the last row's has no value
+  pub none_above : (rows : List (ℕ × V)) (key last : ℕ) (row : ℕ × V) → T (is_sorted nat_cmp rows)
+      → last + 1 ≡ length rows → row ≡ slice_index_or rows last row → row.0 < key → get rows key ≡ None
+  none_above rows key last row h long is low =
+      none_past rows key (length rows) h (sym (above_last rows key last row h long is (lt-ltb row.0 key low))) refl
+
   pub none_other : (rows : List (ℕ × V)) (key place : ℕ) (row : ℕ × V) → T (is_sorted nat_cmp rows)
       → place ≡ place_of key rows → place ≤ length rows → place ≢ length rows → row ≡ slice_index_or rows place row
       → row.0 ≢ key → get rows key ≡ None

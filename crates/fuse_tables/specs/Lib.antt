@@ -2,5 +2,6 @@ pub mod KeyTests
 pub mod LateValues
 pub mod Lends
 pub mod LiveRows
+pub mod NameFronts
 pub mod TableState
 pub mod Tallies

@@ -69,6 +69,9 @@ pub(crate) fn value_in<V, A: Allocator>(rows: &Rows<V, A>, key: u64) -> Option<&
         if last.0 == key {
             return last.1.as_ref();
         }
+        if last.0 < key {
+            return None;
+        }
     }
     search_value(rows, key)
 }

@@ -10,12 +10,26 @@ ghost use Rattle.fuse_tables.specs.TableState.{place_of, IsRowOf};
 use std::alloc::Allocator;
 use std::collections::VecDeque;
 
+/// Whether no row has a lower key, as the first row says.
+#[inline(always)]
+fn is_none_lower<V, A: Allocator>(rows: &VecDeque<(u64, V), A>, key: u64) -> bool
+    ensures { result ≡ true → place_of key rows.now.items ≡ 0 }
+{
+    match rows.front() {
+        Some(first) => key <= first.0,
+        None => true,
+    }
+}
+
 /// How many of the rows, from the first on, have a lower key.
 pub(crate) fn place_in<V, A: Allocator>(rows: &VecDeque<(u64, V), A>, key: u64) -> usize
     requires { T (is_sorted nat_cmp rows.now.items) }
     ensures place { result ≡ place_of key rows.now.items }
     ensures bound { result ≤ deque_len rows.now }
 {
+    if is_none_lower(rows, key) {
+        return 0;
+    }
     rows.partition_point(|row| row.0 < key)
 }
 
@@ -92,8 +106,14 @@ pub fn find_row<V, A: Allocator>(rows: &VecDeque<(u64, V), A>, key: u64) -> Opti
         return Some(place);
     }
     let len = rows.len();
-    if len > 0 && rows[len - 1].0 == key {
-        return Some(len - 1);
+    if len > 0 {
+        let last = &rows[len - 1];
+        if last.0 == key {
+            return Some(len - 1);
+        }
+        if last.0 < key {
+            return None;
+        }
     }
     let place = place_in(rows, key);
     if is_row_of(rows, place, key) {

@@ -46,9 +46,9 @@ fn place_in<V>(rows: &[(u64, V)], key: u64) -> usize
     rows.partition_point(|row| row.0 < key)
 }
 
-/// Where the row of a key stands.
-#[inline(always)]
-fn find_in<V>(rows: &[(u64, V)], key: u64) -> Option<usize>
+/// Where the row of a key stands, by a search.
+#[inline(never)]
+fn search_in<V>(rows: &[(u64, V)], key: u64) -> Option<usize>
     requires { T (is_sorted nat_cmp rows.now) }
     ensures { MatchOption result (value_at rows.now key ≡ None) (IsRowOf rows.now key) }
 {
@@ -58,6 +58,23 @@ fn find_in<V>(rows: &[(u64, V)], key: u64) -> Option<usize>
     }
     let row = &rows[place];
     if row.0 == key { Some(place) } else { None }
+}
+
+/// Where the row of a key stands. The last row is looked at first.
+#[inline(always)]
+fn find_in<V>(rows: &[(u64, V)], key: u64) -> Option<usize>
+    requires { T (is_sorted nat_cmp rows.now) }
+    ensures { MatchOption result (value_at rows.now key ≡ None) (IsRowOf rows.now key) }
+{
+    let len = rows.len();
+    if len == 0 {
+        return None;
+    }
+    let last = &rows[len - 1];
+    if last.0 == key {
+        return Some(len - 1);
+    }
+    search_in(rows, key)
 }
 
 /// Puts a row at a place, for which there is room. Most keys rise, so most rows come last.

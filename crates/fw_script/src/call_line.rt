@@ -36,21 +36,36 @@ pub(crate) enum PathForm {
     Rmdir,
 }
 
+/// The form that `call` and a word name where the call has a path alone.
+#[inline(always)]
+fn form_of_path(word: &[u8]) -> Option<PathForm>
+    ensures { MatchOption result
+        ((f : PathForm) → path_name f ≢ word.now)
+        (λ f. path_name f ≡ word.now) }
+{
+    match word {
+        b"stat" => Some(PathForm::Stat),
+        b"open" => Some(PathForm::Open),
+        b"mkdir" => Some(PathForm::Mkdir),
+        b"create" => Some(PathForm::Create),
+        b"unlink" => Some(PathForm::Unlink),
+        b"rmdir" => Some(PathForm::Rmdir),
+        _ => None,
+    }
+}
+
 /// The form that `call` and a word name.
 pub(crate) fn form_of_call(word: &[u8]) -> Option<CallForm>
     ensures { MatchOption result
         ((f : CallForm) → call_name f ≢ word.now)
         (λ f. call_name f ≡ word.now) }
 {
+    if let Some(form) = form_of_path(word) {
+        return Some(CallForm::OfPath(form));
+    }
     match word {
-        b"stat" => Some(CallForm::OfPath(PathForm::Stat)),
         b"list" => Some(CallForm::List),
         b"listplus" => Some(CallForm::ListPlus),
-        b"open" => Some(CallForm::OfPath(PathForm::Open)),
-        b"mkdir" => Some(CallForm::OfPath(PathForm::Mkdir)),
-        b"create" => Some(CallForm::OfPath(PathForm::Create)),
-        b"unlink" => Some(CallForm::OfPath(PathForm::Unlink)),
-        b"rmdir" => Some(CallForm::OfPath(PathForm::Rmdir)),
         b"rename" => Some(CallForm::Rename),
         b"link" => Some(CallForm::Link),
         b"read" => Some(CallForm::Read),

@@ -1,6 +1,6 @@
 //! What lines begin with.
 
-ghost use Rattle.std.specs.Prelude.{◌≡◌, ◌≢◌, ◌++◌, ◌∷◌, [], ℕ, List, IfSome, MatchOption, option_copied};
+ghost use Rattle.std.specs.Prelude.{◌≡◌, ◌≢◌, ◌++◌, ◌∷◌, [], ℕ, List, IfSome, MatchOption, codes, option_copied};
 ghost use Rattle.fw_script.specs.Forms.{form_words, read_name, word_name};
 ghost use Rattle.fuse_text.specs.Words.{words_of, words_left};
 
@@ -40,20 +40,36 @@ pub(crate) enum ReadForm {
     Pending,
 }
 
-/// The form that one word names.
-fn form_of_word(word: &[u8]) -> Option<WordForm>
+/// The form that one of the words of messages names.
+#[inline(always)]
+fn form_of_message(word: &[u8]) -> Option<WordForm>
     ensures { MatchOption result
-        ((f : WordForm) → word_name f ≢ word.now)
+        ((codes "take" ≢ word.now) × (codes "do" ≢ word.now) × (codes "again" ≢ word.now)
+        × (codes "write" ≢ word.now) × (codes "settle" ≢ word.now) × (codes "intr" ≢ word.now))
         (λ f. word_name f ≡ word.now) }
 {
     match word {
-        b"mount" => Some(WordForm::Mount),
         b"take" => Some(WordForm::Take),
         b"do" => Some(WordForm::Do),
         b"again" => Some(WordForm::Again),
         b"write" => Some(WordForm::Write),
         b"settle" => Some(WordForm::Settle),
         b"intr" => Some(WordForm::Interrupt),
+        _ => None,
+    }
+}
+
+/// The form that one word names.
+fn form_of_word(word: &[u8]) -> Option<WordForm>
+    ensures { MatchOption result
+        ((f : WordForm) → word_name f ≢ word.now)
+        (λ f. word_name f ≡ word.now) }
+{
+    if let Some(form) = form_of_message(word) {
+        return Some(form);
+    }
+    match word {
+        b"mount" => Some(WordForm::Mount),
         b"tick" => Some(WordForm::Tick),
         b"drop" => Some(WordForm::DropName),
         b"evict" => Some(WordForm::Evict),

@@ -1,5 +1,5 @@
 use Rattle.std.proofs.Common.{refl}
-use Rattle.fk_dentry.specs.Keys.{front_of}
+use Rattle.fuse_tables.specs.NameFronts.{front_of}
 use Rattle.fk_dentry.proofs.KeyedRows.{keeps_by_parts, slots-put, under_parts}
 use Rattle.fk_dentry.proofs.rows.add.Goals as goal
 

@@ -43,6 +43,20 @@ static LOOKUPS_AND_MAKES: [Row; 14] = [
     Row::Numbers(7, LEFT - 7, LEFT - 7),
 ];
 
+/// Names that are alike in their first eight bytes, and one that is all of these.
+static ALIKE: [Row; 10] = [
+    Row::Gives(Operation::Create(0, "long name"), Ok(Answer::File(1))),
+    Row::Gives(Operation::Create(0, "long name 2"), Ok(Answer::File(2))),
+    Row::Gives(Operation::Create(0, "long nam"), Ok(Answer::File(3))),
+    Row::Gives(Operation::Lookup(0, "long name"), Ok(Answer::File(1))),
+    Row::Gives(Operation::Lookup(0, "long name 2"), Ok(Answer::File(2))),
+    Row::Gives(Operation::Lookup(0, "long nam"), Ok(Answer::File(3))),
+    Row::Gives(Operation::Lookup(0, "long name 3"), Ok(Answer::Missing)),
+    Row::Gives(Operation::Unlink(0, "long name"), Ok(Answer::Done)),
+    Row::Gives(Operation::Lookup(0, "long name"), Ok(Answer::Missing)),
+    Row::Gives(Operation::Lookup(0, "long nam"), Ok(Answer::File(3))),
+];
+
 /// Each refusal of an unlink and a rmdir.
 static REMOVALS: [Row; 11] = [
     Row::Gives(Operation::Unlink(2, "x"), Err(TreeError::NotADirectory)),
@@ -276,6 +290,7 @@ fn run_started(rt: &impl Abort, alloc: Global, rows: &[Row], name: &str) {
 
 fn check_names(rt: &impl Abort, alloc: Global) {
     run_started(rt, alloc, &LOOKUPS_AND_MAKES, "lookups and makes");
+    run_on_new(rt, alloc, &ALIKE, &[], "names alike");
     run_started(rt, alloc, &REMOVALS, "removals");
     run_started(rt, alloc, &LINKS, "links");
 }

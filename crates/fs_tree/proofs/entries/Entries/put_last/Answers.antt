@@ -1,15 +1,19 @@
-use Rattle.std.proofs.Common.{ap, ◌∙◌, map, refl, Some}
+use Rattle.std.proofs.Common.{ap, sym, ◌∙◌, map, refl, Some}
 use Rattle.std.specs.Option.{option_map}
 use Rattle.fs_tree.specs.Stored.{Entry, without_key}
 use Rattle.fs_tree.specs.EntryViews.{leaf_entry}
+use Rattle.fs_tree.proofs.KeyOrder.{found_key, kept_key}
 use Rattle.fs_tree.proofs.NameLinks.{AreLinked-put, cookie-of, AreNamedOnce-put, put-entries, unput-entries}
 use Rattle.fs_tree.proofs.entries.Entries.put_last.Goals as goal
 
 pub invariant_of-self-in-Ok : goal.invariant_of-self-in-Ok
 invariant_of-self-in-Ok g c =
     let before = rw (← c.self.view_is) at c.requires in
-    let replaced = c.cookie_of.ensures ∙ ap (option_map (λ l. l.cookie)) c.in-Ok.ensures.old
-    ∙ cookie-of _ _ (c.self.invariant.0 c.args.name.items) in
+    let name = c.args.name.items in
+    let links = c.self.inside.links.entries in
+    let replaced = c.cookie_of.ensures
+    ∙ ap (option_map (λ l. l.cookie)) (c.in-Ok.ensures.old ∙ found_key links name c.new.result c.new.ensures)
+    ∙ cookie-of _ _ (c.self.invariant.0 name) in
     let updates = c.in-Ok.ensures.updates in
     let x : Entry = record { name = c.args.name.items; file = c.args.link.file; cookie = c.args.link.cookie } in
     rw (
@@ -20,16 +24,20 @@ invariant_of-self-in-Ok g c =
       c.in_ok-copy_of.ensures,
       c.deref.ensures.value,
     ) (
-      AreLinked-put x c.args.link c.self.inside.links.entries _
-          (map leaf_entry c.self.inside.names.entries) refl refl updates.3 updates.1 c.self.invariant.0,
+      AreLinked-put x c.args.link links _ (map leaf_entry c.self.inside.names.entries) refl refl
+          (kept_key name c.new.result c.new.ensures links _ updates.3)
+          (sym (found_key _ name c.new.result c.new.ensures) ∙ updates.1) c.self.invariant.0,
       AreNamedOnce-put (map leaf_entry c.self.inside.names.entries) x c.self.invariant.1,
     )
 
 pub returns-in-Ok-clause-ok : goal.returns-in-Ok-clause-ok
 returns-in-Ok-clause-ok g c =
     let before = rw (← c.self.view_is) at c.requires in
-    let replaced = c.cookie_of.ensures ∙ ap (option_map (λ l. l.cookie)) c.in-Ok.ensures.old
-    ∙ cookie-of _ _ (c.self.invariant.0 c.args.name.items) in
+    let name = c.args.name.items in
+    let links = c.self.inside.links.entries in
+    let replaced = c.cookie_of.ensures
+    ∙ ap (option_map (λ l. l.cookie)) (c.in-Ok.ensures.old ∙ found_key links name c.new.result c.new.ensures)
+    ∙ cookie-of _ _ (c.self.invariant.0 name) in
     rw (← c.self.view_is)
     (ap (map leaf_entry) c.take_away.ensures.entries
     ∙ rw (

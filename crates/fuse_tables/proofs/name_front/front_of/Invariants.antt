@@ -1,6 +1,6 @@
 use Rattle.std.proofs.Common.{◌≡◌, drop}
-use Rattle.fk_dentry.specs.Keys.{front_of, number_behind}
-use Rattle.fk_dentry.proofs.key.front_of.Given as goal
+use Rattle.fuse_tables.specs.NameFronts.{front_of, number_behind}
+use Rattle.fuse_tables.proofs.name_front.front_of.Given as goal
 
 -- The bytes that are left, behind the number so far, give the whole number.
 abbrev pub invariant-loop-byte : goal.invariant-loop-byte

@@ -1,7 +1,7 @@
 use Rattle.std.proofs.Common.{ℕ, take, sym, ap, ◌∙◌}
 use Rattle.std.proofs.lemmas.List.{at_drop_all, at_drop_more, take_min}
-use Rattle.fk_dentry.specs.Keys.{front_of, number_behind}
-use Rattle.fk_dentry.proofs.key.front_of.Goals as goal
+use Rattle.fuse_tables.specs.NameFronts.{front_of, number_behind}
+use Rattle.fuse_tables.proofs.name_front.front_of.Goals as goal
 
 pub loop-byte-init : goal.loop-byte-init
 unfolding front_of
