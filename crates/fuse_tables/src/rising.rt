@@ -30,7 +30,7 @@ use std::marker::Model;
 ///
 /// | Call | Time |
 /// |---|---|
-/// | `get`, `get_mut`, `replace`, `remove` | log `n` steps; one at either end, or where no key came late and those of the rows have no gaps, or rise by two |
+/// | `get`, `get_mut`, `replace`, `remove` | log `n` steps; one at either end or beyond it, or where no key came late and those of the rows have no gaps, or rise by two |
 /// | `put` | log `n` steps, or one for a key above all, on the whole of many calls: at times one moves all rows |
 /// | `is_above` | one step |
 /// | `reserve` | one step, on the whole of many calls: at times one moves all rows |

@@ -5,7 +5,7 @@ use fuse_text::{is_hex_or_none, read_hex_or_none};
 use fw_drive::NoLine;
 use fw_reference::Reference;
 use fw_script::{Line, read_line, write_record};
-use fw_world::{Answer, Call, Event, Maps, Record, Refusal};
+use fw_world::{Answer, Call, Event, Maps, Record, Refusal, Tables};
 use std::alloc::Allocator;
 
 /// A world beside the server that is driven.
@@ -20,6 +20,19 @@ fn of_refusal(refusal: Refusal) -> NoLine {
     match refusal {
         Refusal::NoMemory => NoLine::NoMemory,
         refusal => NoLine::Refused(refusal),
+    }
+}
+
+/// Makes a call, which has this number there. Gives its answer here, if it was begun.
+fn carry<T: Tables>(
+    reference: &mut Reference<T>,
+    number: u64,
+    call: &Call<'_>,
+) -> Result<Option<Answer<T::Heap>>, NoLine> {
+    match reference.make(call, number) {
+        Ok(Some(_here)) => Ok(reference.collect()),
+        Ok(None) => Ok(None),
+        Err(refusal) => Err(of_refusal(refusal)),
     }
 }
 
@@ -42,19 +55,10 @@ impl<A: Allocator + Copy> Beside<A> {
         self.reference.mount().map_err(of_refusal)
     }
 
-    /// Makes a call, which has this number there. Gives its answer here, if it was begun.
-    fn carry(&mut self, number: u64, call: Call<'_>) -> Result<Option<Answer<A>>, NoLine> {
-        match self.reference.make(&call, number) {
-            Ok(Some(_here)) => Ok(self.reference.collect()),
-            Ok(None) => Ok(None),
-            Err(refusal) => Err(of_refusal(refusal)),
-        }
-    }
-
     /// Makes a call, and gives the words of its answer.
     fn answered(&mut self, number: u64, call: Call<'_>) -> Result<Vec<u8, A>, NoLine> {
         let mut words = Vec::new(self.alloc);
-        let Some(answer) = self.carry(number, call)? else {
+        let Some(answer) = carry(&mut self.reference, number, &call)? else {
             return Ok(words);
         };
         let mut record = Vec::new(self.alloc);

@@ -60,32 +60,70 @@ pub(crate) fn is_there<A: Allocator + Copy>(
     }
 }
 
+/// What must be at the path of a call for Linux to send it.
+#[derive(Clone, Copy)]
+enum Needs {
+    /// Directories on the way to it.
+    Way,
+    Directory,
+    File,
+    Nothing,
+    /// A file, and nothing at the other path.
+    Link,
+}
+
+/// The calls of one path, and the one of a new name of a file.
+static NEEDS: [(&[u8], Needs); 9] = [
+    (b"stat", Needs::Way),
+    (b"list", Needs::Directory),
+    (b"listplus", Needs::Directory),
+    (b"rmdir", Needs::Directory),
+    (b"open", Needs::File),
+    (b"unlink", Needs::File),
+    (b"mkdir", Needs::Nothing),
+    (b"create", Needs::Nothing),
+    (b"link", Needs::Link),
+];
+
+/// What a call needs, if it is among these.
+fn needs_of(call: &[u8]) -> Option<Needs> {
+    for (name, needs) in &NEEDS {
+        if *name == call {
+            return Some(*needs);
+        }
+    }
+    None
+}
+
+/// Whether Linux sends a call of an open file, if the call is one: of no bytes it sends none.
+fn is_transfer_sent(call: &[u8], size: &[u8]) -> Option<bool> {
+    match call {
+        b"read" => Some(size != b"0".as_slice()),
+        b"write" => Some(size != b"-".as_slice()),
+        b"close" => Some(true),
+        _ => None,
+    }
+}
+
 /// Whether Linux sends the operation of a line's call, as far as the paths say.
 pub(crate) fn is_sent<A: Allocator + Copy>(
     alloc: A,
     beside: &mut Beside<A>,
     line: &[u8],
 ) -> Result<bool, NoLine> {
-    let (call, one, other) = (word_at(line, 1), word_at(line, 2), word_at(line, 3));
-    match call {
-        // Of no bytes Linux sends none.
-        b"read" => return Ok(word_at(line, 4) != b"0".as_slice()),
-        b"write" => return Ok(word_at(line, 4) != b"-".as_slice()),
-        b"close" => return Ok(true),
-        _ => {}
+    if let Some(is_sent) = is_transfer_sent(word_at(line, 1), word_at(line, 4)) {
+        return Ok(is_sent);
     }
+    let (one, other) = (word_at(line, 2), word_at(line, 3));
     let first = look_up(alloc, beside, one)?;
-    match call {
-        b"stat" => Ok(first != Found::Nowhere),
-        b"list" | b"listplus" | b"rmdir" => Ok(first == Found::Directory),
-        b"open" | b"unlink" => Ok(matches!(first, Found::File(_))),
-        b"mkdir" | b"create" => Ok(first == Found::Missing),
-        b"link" => Ok(
-            matches!(first, Found::File(_)) && look_up(alloc, beside, other)? == Found::Missing,
-        ),
-        _ => {
-            let second = look_up(alloc, beside, other)?;
-            Ok(is_moved(first, second, one, other))
+    Ok(match needs_of(word_at(line, 1)) {
+        Some(Needs::Way) => first != Found::Nowhere,
+        Some(Needs::Directory) => first == Found::Directory,
+        Some(Needs::File) => matches!(first, Found::File(_)),
+        Some(Needs::Nothing) => first == Found::Missing,
+        Some(Needs::Link) => {
+            matches!(first, Found::File(_)) && look_up(alloc, beside, other)? == Found::Missing
         }
-    }
+        None => is_moved(first, look_up(alloc, beside, other)?, one, other),
+    })
 }

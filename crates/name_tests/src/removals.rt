@@ -38,9 +38,8 @@ const LOOKUP: u8 = 1;
 
 const UNLINK: u8 = 10;
 
-#[test]
-fn names_that_are_removed(rt: HostRuntime) -> Result<(), Fail> {
-    let mut judge = NameJudge::new(rt.alloc());
+/// A judge sees names that are removed. It is the caller's, so that no way out drops it.
+fn see_removals(rt: &impl Abort, judge: &mut NameJudge) -> Result<(), Fail> {
     let agreed = BEFORE_INIT;
     // The name is not given.
     let unknown = judge.see(agreed, Transfer::Request(&request(UNLINK, 4)))?;
@@ -67,8 +66,13 @@ fn names_that_are_removed(rt: HostRuntime) -> Result<(), Fail> {
 }
 
 #[test]
-fn names_of_a_directory_that_is_forgotten(rt: HostRuntime) -> Result<(), Fail> {
+fn names_that_are_removed(rt: HostRuntime) -> Result<(), Fail> {
     let mut judge = NameJudge::new(rt.alloc());
+    see_removals(&rt, &mut judge)
+}
+
+/// A judge sees a directory that is forgotten.
+fn see_forgotten(rt: &impl Abort, judge: &mut NameJudge) -> Result<(), Fail> {
     let agreed = BEFORE_INIT;
     let looks = judge.see(agreed, Transfer::Request(&request(LOOKUP, 4)))?;
     let found = judge.see(agreed, Transfer::Written(&entry(4, 5), Taken::Accepted))?;
@@ -76,4 +80,10 @@ fn names_of_a_directory_that_is_forgotten(rt: HostRuntime) -> Result<(), Fail> {
     let left = judge.see(agreed, Transfer::Request(&request(UNLINK, 6)))?;
     assert!(rt; !looks && !found && left, "left");
     Ok(())
+}
+
+#[test]
+fn names_of_a_directory_that_is_forgotten(rt: HostRuntime) -> Result<(), Fail> {
+    let mut judge = NameJudge::new(rt.alloc());
+    see_forgotten(&rt, &mut judge)
 }

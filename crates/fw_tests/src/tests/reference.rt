@@ -1,7 +1,7 @@
 //! Calls of another kernel's run, made again and answered here.
 
 use fw_reference::Reference;
-use fw_world::{Answer, Call, Event, Maps, Refusal};
+use fw_world::{Answer, Call, Event, Maps, Refusal, Tables};
 use std::alloc::Global;
 use std::test::Fail;
 
@@ -42,8 +42,9 @@ static ROWS: [(u64, Call<'static>, bool); 8] = [
     (80, Call::Stat { path: b"/d/f" }, true),
 ];
 
-/// Makes each call, and says whether each is answered as its row says. One that is not begun has no answer.
-fn are_answered(reference: &mut Reference<Maps<Global>>) -> Result<bool, Refusal> {
+/// Makes each call, and says whether each is answered as its row says. One that is not begun has no answer. A method that is
+/// called of a world over any tables is checked in less time than one of a world over maps.
+fn are_answered<T: Tables>(reference: &mut Reference<T>) -> Result<bool, Refusal> {
     for (number, call, is_good) in ROWS.iter() {
         let made = reference.make(call, *number)?;
         let answer = reference.collect();
@@ -59,7 +60,7 @@ fn are_answered(reference: &mut Reference<Maps<Global>>) -> Result<bool, Refusal
 }
 
 /// Mounts a world, makes the calls and lets time pass. Nothing waits to be collected at the end.
-fn run(reference: &mut Reference<Maps<Global>>) -> Result<bool, Refusal> {
+fn run<T: Tables>(reference: &mut Reference<T>) -> Result<bool, Refusal> {
     reference.mount()?;
     let is_good = are_answered(reference)?;
     reference.follow(&Event::Tick(5))?;
@@ -67,8 +68,8 @@ fn run(reference: &mut Reference<Maps<Global>>) -> Result<bool, Refusal> {
 }
 
 /// The same in a new world.
-fn is_carried(alloc: Global) -> Result<bool, Refusal> {
-    let mut reference = Reference::<Maps<Global>>::new(alloc)?;
+fn is_carried<T: Tables>(heap: T::Heap) -> Result<bool, Refusal> {
+    let mut reference = Reference::<T>::new(heap)?;
     let ran = run(&mut reference);
     reference.end();
     ran
@@ -76,6 +77,6 @@ fn is_carried(alloc: Global) -> Result<bool, Refusal> {
 
 #[test]
 fn calls_are_carried_by_their_numbers_there(rt: HostRuntime) -> Result<(), Fail> {
-    assert!(rt; is_carried(rt.alloc()) == Ok(true));
+    assert!(rt; is_carried::<Maps<Global>>(rt.alloc()) == Ok(true));
     Ok(())
 }
