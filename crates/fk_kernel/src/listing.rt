@@ -40,11 +40,11 @@ impl<Q: QueueTable<Purpose>, C: CountTable<Heap = Q::Heap>> KernelOf<Q, C> {
             ≡ (WriteResult.Accepted, self.new)) }
     {
         let directory = self.directory_listed(call);
+        // A forget of each name that is stale, and of each node that is new.
+        reserve_forgets(&mut self.queues, &self.nodes, 2 * pairs.count_left())?;
         let Ok(listed) = names_of_direntpluses(self.alloc, pairs) else {
             return Err(Refusal::NoMemory);
         };
-        // A forget of each name that is stale, and of each node that is new.
-        reserve_forgets(&mut self.queues, &self.nodes, 2 * pairs.count_left())?;
         let (names, nodes) = (&mut self.names, &mut self.nodes);
         let Ok(()) = count_listed(names, nodes, directory, pairs) else {
             return Err(Refusal::NoMemory);

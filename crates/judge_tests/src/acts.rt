@@ -64,11 +64,9 @@ fn names(
     judge.see(acts, verdicts).is_ok() && verdicts.as_slice() == faults
 }
 
-#[test]
-fn one_session(rt: HostRuntime) -> Result<(), Fail> {
-    let mut judge = Judge::new(rt.alloc());
-    let mut verdicts = Vec::new(rt.alloc());
-    let begins = [
+/// INIT is asked and answered.
+fn begins(judge: &mut Judge, verdicts: &mut Vec<Option<Fault>>) -> bool {
+    let acts = [
         Act::Arrives,
         Act::Begins(Opcode::Init),
         Act::Read {
@@ -79,9 +77,12 @@ fn one_session(rt: HostRuntime) -> Result<(), Fail> {
         Act::Agrees(65536),
         replies(2, Taken::Accepted),
     ];
-    let met = names(&mut judge, &begins, &[None; 6], &mut verdicts);
-    assert!(rt; met, "begins");
-    let looks_up = [
+    names(judge, &acts, &[None; 6], verdicts)
+}
+
+/// A node of two kinds is given, and three numbers are wrong.
+fn looks_up(judge: &mut Judge, verdicts: &mut Vec<Option<Fault>>) -> bool {
+    let acts = [
         Act::Read {
             opcode: Some(Opcode::Lookup),
             unique: 4,
@@ -109,9 +110,12 @@ fn one_session(rt: HostRuntime) -> Result<(), Fail> {
         Some(Fault::ReplyToNothing),
         Some(Fault::NumberUsedTwice),
     ];
-    let met = names(&mut judge, &looks_up, &faults, &mut verdicts);
-    assert!(rt; met, "looks up");
-    let reads = [
+    names(judge, &acts, &faults, verdicts)
+}
+
+/// An open file is used, released and released again, its node forgotten and named.
+fn reads(judge: &mut Judge, verdicts: &mut Vec<Option<Fault>>) -> bool {
+    let acts = [
         Act::Opens(HANDLE),
         asks(8, Opcode::Read, 5, Some(HANDLE)),
         Act::Uses(HANDLE),
@@ -139,9 +143,12 @@ fn one_session(rt: HostRuntime) -> Result<(), Fail> {
         Some(Fault::InterruptTooOften),
         Some(Fault::NodeNotCounted),
     ];
-    let met = names(&mut judge, &reads, &faults, &mut verdicts);
-    assert!(rt; met, "reads");
-    let ends = [
+    names(judge, &acts, &faults, verdicts)
+}
+
+/// A WRITE is too large, and a read comes after the end.
+fn ends(judge: &mut Judge, verdicts: &mut Vec<Option<Fault>>) -> bool {
+    let acts = [
         Act::Writes(65536),
         Act::Writes(65537),
         Act::Ends,
@@ -153,7 +160,16 @@ fn one_session(rt: HostRuntime) -> Result<(), Fail> {
         None,
         Some(Fault::ReadAfterTheEnd),
     ];
-    let met = names(&mut judge, &ends, &faults, &mut verdicts);
-    assert!(rt; met, "ends");
+    names(judge, &acts, &faults, verdicts)
+}
+
+#[test]
+fn one_session(rt: HostRuntime) -> Result<(), Fail> {
+    let mut judge = Judge::new(rt.alloc());
+    let mut verdicts = Vec::new(rt.alloc());
+    assert!(rt; begins(&mut judge, &mut verdicts), "begins");
+    assert!(rt; looks_up(&mut judge, &mut verdicts), "looks up");
+    assert!(rt; reads(&mut judge, &mut verdicts), "reads");
+    assert!(rt; ends(&mut judge, &mut verdicts), "ends");
     Ok(())
 }

@@ -28,7 +28,17 @@ const TWICE: &[u8] = b"frame 3: server: second reply: unique 2\n";
 
 const NO_MEMORY: &[u8] = b"not judged from here on: no memory\n";
 
-/// The counts after INIT, its reply and the FORGET, and whether each frame went over the device inside.
+/// Whether INIT, its reply and the FORGET go over a device.
+fn goes_over<D: Device>(judged: &mut D) -> bool {
+    let mut room = [0; 128];
+    let first = judged.receive(&mut room).unwrap_or(0);
+    let sent = judged.send(&ANSWER).is_ok();
+    let second = judged.receive(&mut room).unwrap_or(0);
+    let has_ended = judged.receive(&mut room) == Err(DeviceEnd::Ended);
+    first == 56 && sent && second == 48 && has_ended
+}
+
+/// The counts after these frames, and whether each went over the device inside.
 fn judge_kernel<A: Allocator + Copy>(
     alloc: A,
     outer: Global,
@@ -36,25 +46,23 @@ fn judge_kernel<A: Allocator + Copy>(
 ) -> (FaultCounts, bool) {
     let frames = [INIT.as_slice(), FORGET.as_slice()];
     let mut judged = JudgedDevice::new(alloc, ListDevice::new(outer, &frames), out);
+    let went_over = goes_over(&mut judged);
+    (judged.faults(), went_over)
+}
+
+/// INIT is sent, and two replies received.
+fn ask_once<D: Device>(judged: &mut D) {
     let mut room = [0; 128];
-    let first = judged.receive(&mut room).unwrap_or(0);
-    let sent = judged.send(&ANSWER).is_ok();
-    let second = judged.receive(&mut room).unwrap_or(0);
-    let has_ended = judged.receive(&mut room) == Err(DeviceEnd::Ended);
-    (
-        judged.faults(),
-        first == 56 && sent && second == 48 && has_ended,
-    )
+    let _sent = judged.send(&INIT);
+    let _first = judged.receive(&mut room);
+    let _second = judged.receive(&mut room);
 }
 
 /// The counts after INIT and two replies.
 fn judge_server<A: Allocator + Copy>(alloc: A, outer: Global, out: &mut Vec<u8>) -> FaultCounts {
     let frames = [ANSWER.as_slice(), ANSWER.as_slice()];
     let mut judged = JudgedServer::new(alloc, ListDevice::new(outer, &frames), out);
-    let mut room = [0; 128];
-    let _sent = judged.send(&INIT);
-    let _first = judged.receive(&mut room);
-    let _second = judged.receive(&mut room);
+    ask_once(&mut judged);
     judged.faults()
 }
 

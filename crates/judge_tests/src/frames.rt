@@ -193,19 +193,18 @@ fn put_frame(frame: &mut Vec<u8>, step: &Step) -> Result<(), AllocError> {
     put_body(frame, step.body)
 }
 
-/// Whether these are the faults of the next transfer, in order.
-fn has_faults(
-    judge: &mut SessionJudge,
-    transfer: Transfer<'_>,
-    acts: &mut Vec<Act>,
-    verdicts: &mut Vec<Option<Fault>>,
-    faults: &[Fault],
-) -> bool {
-    if judge.see(transfer, acts, verdicts).is_err() {
-        return false;
-    }
+/// What the judge makes of a frame, and the frame.
+#[derive(Drop)]
+struct Room {
+    acts: Vec<Act>,
+    verdicts: Vec<Option<Fault>>,
+    frame: Vec<u8>,
+}
+
+/// Whether these are the faults, in order.
+fn are_faults(verdicts: &[Option<Fault>], faults: &[Fault]) -> bool {
     let mut found = 0;
-    for verdict in verdicts.as_slice() {
+    for verdict in verdicts {
         if let Some(fault) = verdict {
             if found >= faults.len() || faults[found] != *fault {
                 return false;
@@ -216,31 +215,43 @@ fn has_faults(
     found == faults.len()
 }
 
+/// Whether a step has its faults.
+fn has_faults(judge: &mut SessionJudge, room: &mut Room, step: &Step) -> Result<bool, AllocError> {
+    put_frame(&mut room.frame, step)?;
+    let transfer = match step.frame {
+        Frame::Request { .. } => Transfer::Request(&room.frame),
+        Frame::Written { taken, .. } => Transfer::Written(&room.frame, taken),
+    };
+    judge.see(transfer, &mut room.acts, &mut room.verdicts)?;
+    Ok(are_faults(room.verdicts.as_slice(), step.faults))
+}
+
+/// Whether half a head has its fault, and the end none.
+fn ends(judge: &mut SessionJudge, room: &mut Room) -> Result<bool, AllocError> {
+    let head = Transfer::Written(&[16, 0, 0, 0], Taken::Invalid);
+    judge.see(head, &mut room.acts, &mut room.verdicts)?;
+    let half = are_faults(room.verdicts.as_slice(), &[Fault::MalformedReply]);
+    judge.see(Transfer::Ended, &mut room.acts, &mut room.verdicts)?;
+    Ok(half && are_faults(room.verdicts.as_slice(), &[]))
+}
+
+/// The judge and its room are the caller's, so that no way out drops them.
+fn check(rt: &impl Abort, judge: &mut SessionJudge, room: &mut Room) -> Result<(), Fail> {
+    for step in &STEPS {
+        let met = has_faults(judge, room, step)?;
+        assert!(rt; met, "{} {}", step.unique, step.faults.len());
+    }
+    assert!(rt; ends(judge, room)?, "end");
+    Ok(())
+}
+
 #[test]
 fn one_session(rt: HostRuntime) -> Result<(), Fail> {
     let mut judge = SessionJudge::new(rt.alloc());
-    let mut acts = Vec::new(rt.alloc());
-    let mut verdicts = Vec::new(rt.alloc());
-    let mut frame = Vec::new(rt.alloc());
-    for step in &STEPS {
-        put_frame(&mut frame, step)?;
-        let transfer = match step.frame {
-            Frame::Request { .. } => Transfer::Request(&frame),
-            Frame::Written { taken, .. } => Transfer::Written(&frame, taken),
-        };
-        let met = has_faults(&mut judge, transfer, &mut acts, &mut verdicts, step.faults);
-        assert!(rt; met, "{} {}", step.unique, step.faults.len());
-    }
-    let head = Transfer::Written(&[16, 0, 0, 0], Taken::Invalid);
-    let met = has_faults(
-        &mut judge,
-        head,
-        &mut acts,
-        &mut verdicts,
-        &[Fault::MalformedReply],
-    );
-    assert!(rt; met, "half a head");
-    let met = has_faults(&mut judge, Transfer::Ended, &mut acts, &mut verdicts, &[]);
-    assert!(rt; met, "end");
-    Ok(())
+    let mut room = Room {
+        acts: Vec::new(rt.alloc()),
+        verdicts: Vec::new(rt.alloc()),
+        frame: Vec::new(rt.alloc()),
+    };
+    check(&rt, &mut judge, &mut room)
 }
