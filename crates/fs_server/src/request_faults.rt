@@ -83,6 +83,7 @@ impl<S: NodeStore> ServerOf<S> {
             (body_in request.now.nodeid (request_content request.now.body)) }
         ensures faultless { IfNone result (IsFaultless self.now request.now.unique request.now.nodeid
             (request_content request.now.body)) }
+        ensures other { IfSome result (λ fault. fault ≡ MemoryFault → ⊥) }
     {
         if !is_spoken(self.minor, request.nodeid, &request.body) {
             return Some(ServerFault::Wire);
