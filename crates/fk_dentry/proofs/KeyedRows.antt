@@ -9,10 +9,9 @@ use Rattle.std.specs.FinMap.Entries.{is_sorted-put, is_sorted-where_key, same_en
 use Rattle.fuse_spec.specs.declared.Dentry.{Dentry}
 use Rattle.fuse_spec.specs.Values.Maps.{Place, place_cmp, get_name, put_name, remove_name}
 use Rattle.fuse_spec.proofs.Tables.{place_total, name_put, name_gone}
-use Rattle.fuse_tables.specs.NameFronts.{front_of}
 use Rattle.fk_dentry.specs.Keys.{is_of}
 use Rattle.fk_dentry.specs.Rows.{slots_of}
-use Rattle.fk_dentry.proofs.KeyOrder.{both_tests, key_test, test_by, test_of}
+use Rattle.fk_dentry.proofs.KeyOrder.{both_tests, key_test}
 use Rattle.fk_dentry.proofs.PlaceOrder.{place_same, tied}
 
 abbrev pub Entries : Type 0
@@ -62,20 +61,21 @@ changed old new key slot at others q = by (eq_by_cmp place_cmp q key) refl
         (λ k h. ap (λ (p : Place). eq_by_cmp place_cmp q p) (sym (place_same key k (tied _ h))) ∙ e)
         ∙ sym (get-slots old q)
 
--- What is found by the parts of a name is found under it.
-pub found_by_parts : (es : Entries) (p : Place) (front : ℕ) → front ≡ front_of p.1
-    → lookup (test_by p.0 front p.1) es ≡ get_name (slots_of es) p
-found_by_parts es p front is = ap (λ (test : Place → Bool). lookup test es) (test_of p front is) ∙ sym (get-slots es p)
+-- What is found by the key of a name is found under it.
+pub found_by_key : (es : Entries) (p key : Place) → key ≡ p → lookup (key_test key) es ≡ get_name (slots_of es) p
+found_by_key es p key same =
+    ap (λ (k : Place). lookup (key_test k) es) same
+    ∙ ap (λ (tests : Place → Place → Bool). lookup (tests p) es) both_tests ∙ sym (get-slots es p)
 
-pub under_parts : (es : Entries) (p : Place) (front : ℕ) → front ≡ front_of p.1 → (slot : Option (Option Dentry))
-    → lookup (test_by p.0 front p.1) es ≡ slot → lookup (is_of p) es ≡ slot
-under_parts es p front is slot at = ap (λ (test : Place → Bool). lookup test es) (sym (test_of p front is)) ∙ at
+pub under_key : (es : Entries) (p key : Place) → key ≡ p → (slot : Option (Option Dentry))
+    → lookup (key_test key) es ≡ slot → lookup (is_of p) es ≡ slot
+under_key es p key same slot at = sym (get-slots es p) ∙ sym (found_by_key es p key same) ∙ at
 
-pub keeps_by_parts : (p : Place) (front : ℕ) → front ≡ front_of p.1 → (old new : Entries)
-    → KeepsOthers key_test (test_by p.0 front p.1) old new → KeepsNames p old new
-keeps_by_parts p front is old new keeps =
-    subst (λ (tests : Place → Place → Bool). KeepsOthers tests (is_of p) old new) both_tests
-    (subst (λ (test : Place → Bool). KeepsOthers key_test test old new) (test_of p front is) keeps)
+pub keeps_by_key : (p key : Place) → key ≡ p → (old new : Entries)
+    → KeepsOthers key_test (key_test key) old new → KeepsNames p old new
+keeps_by_key p key same old new keeps =
+    subst (λ (tests : Place → Place → Bool). KeepsOthers tests (tests p) old new) both_tests
+    (subst (λ (k : Place). KeepsOthers key_test (key_test k) old new) same keeps)
 
 -- Each entry is found under its own name.
 pub all_under : (es : Entries) → All (λ (e : Place × Option Dentry). lookup (key_test e.0) es ≡ Some e.1) es

@@ -5,7 +5,7 @@ ghost use Rattle.fuse_spec.specs.Calls.Vfs.{valid_at};
 ghost use Rattle.fk_dentry.specs.CachedNames.{HasRoom, found_by, names_the_node, restored};
 
 use crate::found::Found;
-use crate::key::NameKey;
+use crate::key::DentryKey;
 use crate::node_counts::NodeCounts;
 use crate::rows::{Rows, add, bind, first_bound, slot, take_out};
 use fuse_spec::Dentry;
@@ -104,7 +104,7 @@ impl<A: Allocator + Copy> Bindings<A> {
         }
         self.nodes.reserve(self.rows.len() + 1)?;
         let name = name.to_vec(self.alloc)?;
-        add(&mut self.rows, NameKey::new(directory, name), None)?;
+        add(&mut self.rows, DentryKey::new(directory, name), None)?;
         Ok(())
     }
 
@@ -188,7 +188,11 @@ impl<A: Allocator + Copy> Bindings<A> {
     {
         self.nodes.reserve(self.rows.len() + 1)?;
         let name = name.to_vec(self.alloc)?;
-        add(&mut self.rows, NameKey::new(directory, name), Some(dentry))?;
+        add(
+            &mut self.rows,
+            DentryKey::new(directory, name),
+            Some(dentry),
+        )?;
         self.nodes.enter(directory, dentry.target);
         Ok(())
     }

@@ -1,49 +1,37 @@
 //! Names of directories as keys of an ordered map.
 ghost use Rattle.std.specs.Prelude.{◌≡◌};
-ghost use Rattle.std.specs.Ordering.{nat_cmp};
-ghost use Rattle.std.specs.Cmp.Lexicographic.{slice_cmp};
-ghost use Rattle.fuse_tables.specs.NameFronts.{front_of};
+ghost use Rattle.fk_dentry.specs.Keys.{sought};
 
-use fuse_tables::front_of;
+use fuse_tables::{LentName, NameKey};
 use std::alloc::Allocator;
 use std::cmp::Ordering;
 use std::collections::btree_map::Comparable;
 use std::marker::Model;
 
-/// A name of a directory. Keys stand in the order of the directories, then of the number of the name's first eight bytes, so
-/// that most differ without a look at the name, and then of all its bytes.
+/// A name of a directory. Keys stand in the order of the directories, and then of the names.
 #[derive(Drop)]
-pub(crate) struct NameKey<A: Allocator> {
+pub(crate) struct DentryKey<A: Allocator> {
     directory: u64,
-    front: u64,
-    name: Vec<u8, A>,
+    name: NameKey<A>,
 }
 
-impl<A: Allocator> Model for NameKey<A> {
-    ghost use Rattle.std.specs.Prelude.{◌≡◌};
+impl<A: Allocator> Model for DentryKey<A> {
     ghost use Rattle.fuse_spec.specs.Values.Maps.{Place};
     ghost use Rattle.fk_dentry.specs.CachedNames.{place_code};
-    ghost use Rattle.fuse_tables.specs.NameFronts.{front_of};
 
     ghost Value = { Place };
 
     ghost coded = { place_code };
 
-    ghost view = { λ k. (k.directory, k.name.items) };
-
-    ghost invariant = { λ k. k.front ≡ front_of k.name.items };
+    ghost view = { λ k. (k.directory, k.name) };
 }
 
-impl<A: Allocator> NameKey<A> {
+impl<A: Allocator> DentryKey<A> {
     pub(crate) fn new(directory: u64, name: Vec<u8, A>) -> Self
         ensures { result ≡ (directory, name.items) }
     {
-        let front = front_of(name.as_slice());
-        NameKey {
-            directory,
-            front,
-            name,
-        }
+        let name = NameKey::new(name);
+        DentryKey { directory, name }
     }
 
     #[inline(always)]
@@ -54,21 +42,21 @@ impl<A: Allocator> NameKey<A> {
     }
 
     #[inline(always)]
-    fn front(&self) -> u64
-        ensures { result ≡ front_of self.now.1 }
-    {
-        self.front
-    }
-
-    #[inline(always)]
     pub(crate) fn name(&self) -> &[u8]
         ensures { result.now ≡ self.now.1 }
     {
-        self.name.as_slice()
+        self.name.name()
+    }
+
+    #[inline(always)]
+    fn name_key(&self) -> &NameKey<A>
+        ensures { result.now ≡ self.now.1 }
+    {
+        &self.name
     }
 }
 
-impl<A: Allocator> PartialEq for NameKey<A> {
+impl<A: Allocator> PartialEq for DentryKey<A> {
     ghost use Rattle.std.specs.Cmp.{eq_by_cmp_equiv, partial_equiv_from_equiv};
     ghost use Rattle.std.specs.Ordering.{eq_by_cmp};
     ghost use Rattle.fk_dentry.specs.Keys.{key_cmp, key_total};
@@ -82,14 +70,14 @@ impl<A: Allocator> PartialEq for NameKey<A> {
     }
 }
 
-impl<A: Allocator> Eq for NameKey<A> {
+impl<A: Allocator> Eq for DentryKey<A> {
     ghost use Rattle.std.specs.Cmp.{eq_by_cmp_equiv};
     ghost use Rattle.fk_dentry.specs.Keys.{key_total};
 
     ghost laws = { eq_by_cmp_equiv key_total };
 }
 
-impl<A: Allocator> PartialOrd for NameKey<A> {
+impl<A: Allocator> PartialOrd for DentryKey<A> {
     ghost use Rattle.std.specs.Prelude.{Some};
     ghost use Rattle.std.specs.Cmp.{partial_order_from_total};
     ghost use Rattle.fk_dentry.specs.Keys.{key_cmp, key_total};
@@ -103,7 +91,7 @@ impl<A: Allocator> PartialOrd for NameKey<A> {
     }
 }
 
-impl<A: Allocator> Ord for NameKey<A> {
+impl<A: Allocator> Ord for DentryKey<A> {
     ghost use Rattle.std.specs.Prelude.{refl};
     ghost use Rattle.fk_dentry.specs.Keys.{key_cmp, key_total};
 
@@ -118,8 +106,7 @@ impl<A: Allocator> Ord for NameKey<A> {
     fn cmp(&self, other: &Self) -> Ordering {
         let lent = LentKey {
             directory: self.directory,
-            front: self.front,
-            name: self.name.as_slice(),
+            name: self.name.lent(),
         };
         lent.compare(other)
     }
@@ -128,36 +115,35 @@ impl<A: Allocator> Ord for NameKey<A> {
 /// A name of a directory, borrowed, so that a look-up copies no name.
 #[derive(Clone, Copy)]
 pub(crate) struct LentKey<'a> {
-    pub directory: u64,
-    /// The number of the name's first eight bytes.
-    pub front: u64,
-    pub name: &'a [u8],
+    directory: u64,
+    name: LentName<'a>,
 }
 
-impl<'a, A: Allocator> Comparable<NameKey<A>> for LentKey<'a> {
-    ghost use Rattle.std.specs.BTreeMap.Comparable.{le_lt_trans};
-    ghost use Rattle.fk_dentry.specs.Keys.{parts_cmp, parts_of, parts_total};
-
-    ghost compare = { λ q k. parts_cmp (q.directory, q.front, q.name.now) (parts_of k) };
-
-    ghost respects_cmp = { λ q x y. parts_total.congr (q.directory, q.front, q.name.now) (parts_of x) (parts_of y) };
-
-    ghost below_greater = { λ q x y. le_lt_trans parts_total (q.directory, q.front, q.name.now) (parts_of x) (parts_of y) };
-
+impl<'a> LentKey<'a> {
     #[inline(always)]
-    fn compare(&self, key: &NameKey<A>) -> Ordering {
-        if self.directory != key.directory() {
-            return self.directory.cmp(&key.directory());
-        }
-        if self.front != key.front() {
-            return self.front.cmp(&key.front());
-        }
-        compare_names(self.name, key.name())
+    pub(crate) fn of(directory: u64, name: &'a [u8]) -> LentKey<'a>
+        ensures { sought result ≡ (directory, name.now) }
+    {
+        let name = LentName::of(name);
+        LentKey { directory, name }
     }
 }
 
-fn compare_names<'a>(left: &'a [u8], right: &'a [u8]) -> Ordering
-    ensures { result ≡ slice_cmp nat_cmp left.now right.now }
-{
-    left.cmp(&right)
+impl<'a, A: Allocator> Comparable<DentryKey<A>> for LentKey<'a> {
+    ghost use Rattle.std.specs.BTreeMap.Comparable.{le_lt_trans};
+    ghost use Rattle.fk_dentry.specs.Keys.{key_cmp, key_total, sought};
+
+    ghost compare = { λ q k. key_cmp (sought q) k };
+
+    ghost respects_cmp = { λ q x y. key_total.congr (sought q) x y };
+
+    ghost below_greater = { λ q x y. le_lt_trans key_total (sought q) x y };
+
+    #[inline(always)]
+    fn compare(&self, key: &DentryKey<A>) -> Ordering {
+        if self.directory != key.directory() {
+            return self.directory.cmp(&key.directory());
+        }
+        self.name.compare(key.name_key())
+    }
 }

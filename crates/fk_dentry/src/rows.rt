@@ -3,14 +3,13 @@ ghost use Rattle.std.specs.Prelude.{◌≡◌, [], None, Some, IfNone, IfSome, I
 ghost use Rattle.fuse_spec.specs.Values.Maps.{get_name, put_name, remove_name};
 ghost use Rattle.fk_dentry.specs.Rows.{slots_of, bound_in, bound_names};
 
-use crate::key::{LentKey, NameKey};
+use crate::key::{DentryKey, LentKey};
 use fuse_spec::Dentry;
-use fuse_tables::front_of;
 use std::alloc::{AllocError, Allocator};
 use std::collections::BTreeMap;
 
 /// Each name that has room, with its dentry if it has one.
-pub(crate) type Rows<A> = BTreeMap<NameKey<A>, Option<Dentry>, A>;
+pub(crate) type Rows<A> = BTreeMap<DentryKey<A>, Option<Dentry>, A>;
 
 /// What stands under a name that has room.
 pub(crate) fn slot<A: Allocator>(
@@ -20,19 +19,14 @@ pub(crate) fn slot<A: Allocator>(
 ) -> Option<Option<Dentry>>
     ensures { result ≡ get_name (slots_of rows.now.entries) (directory, name.now) }
 {
-    rows.get(LentKey {
-        directory,
-        front: front_of(name),
-        name,
-    })
-    .copied()
+    rows.get(LentKey::of(directory, name)).copied()
 }
 
 /// Puts a row. Where memory is refused nothing changes.
 #[inline(always)]
 pub(crate) fn add<A: Allocator + Copy>(
     rows: &mut Rows<A>,
-    key: NameKey<A>,
+    key: DentryKey<A>,
     dentry: Option<Dentry>,
 ) -> Result<(), AllocError>
     ensures slots { OnOk result (slots_of rows.new.entries
@@ -55,11 +49,7 @@ pub(crate) fn bind<A: Allocator>(
         (directory, name.now) (Some dentry) }
     ensures absent { result ≡ None → slots_of rows.new.entries ≡ slots_of rows.old.entries }
 {
-    let slot = rows.get_mut(LentKey {
-        directory,
-        front: front_of(name),
-        name,
-    })?;
+    let slot = rows.get_mut(LentKey::of(directory, name))?;
     Some(slot.replace(dentry))
 }
 
@@ -72,11 +62,7 @@ pub(crate) fn take_out<A: Allocator>(
     ensures dentry { result ≡ bound_in (get_name (slots_of rows.old.entries) (directory, name.now)) }
     ensures slots { slots_of rows.new.entries ≡ remove_name (slots_of rows.old.entries) (directory, name.now) }
 {
-    match rows.remove(LentKey {
-        directory,
-        front: front_of(name),
-        name,
-    }) {
+    match rows.remove(LentKey::of(directory, name)) {
         Some(dentry) => dentry,
         None => None,
     }

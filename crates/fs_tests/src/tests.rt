@@ -5,6 +5,7 @@ mod faults;
 mod frames;
 mod handles;
 mod hostile;
+mod keys;
 mod life;
 mod listed;
 mod minor15;

@@ -8,7 +8,6 @@ pub mod OpenDirectories
 pub mod CookieRows
 pub mod ByCookie
 pub mod ByFile
-pub mod KeyOrder
 pub mod NameLinks
 pub mod Counting
 pub mod Below

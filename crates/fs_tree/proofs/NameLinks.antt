@@ -12,6 +12,7 @@ use Rattle.std.proofs.lemmas.List.{map-append, append-nil, append_assoc}
 use Rattle.std.proofs.lemmas.Grind.{common_steps}
 use Rattle.fuse_spec.specs.Files.Operations.{Dirent, first_listed, listed_by}
 use Rattle.fuse_spec.specs.Files.Trees.{same_name, record_length}
+use Rattle.fuse_tables.specs.NameKeys.{is_named}
 use Rattle.fs_tree.specs.Stored.{Entry, AreBefore, AreKeysBelow, AreNamedOnce, IsRising, files_led, fitting_with, in_directory, lead_pair, without_key}
 use Rattle.fs_tree.specs.EntryViews.{leaf_entry, link_of, entry_link, link_in, AreLinked}
 use Rattle.fs_tree.specs.declared.entries.NamedFile.{NamedFile}
@@ -21,7 +22,6 @@ use Rattle.fs_tree.proofs.ByDirectory.{filter-append, filter-none}
 use Rattle.fs_tree.proofs.EntryRows.{same_name-swap}
 use Rattle.fs_tree.proofs.ByCookie.{same_name-equal, find-where-none, find-append-none, find-gone}
 use Rattle.fs_tree.proofs.CookieRows.{put-last, put-undone}
-use Rattle.fs_tree.proofs.KeyOrder.{ties}
 
 some_entry : (x y : Entry) → Some x ≡ Some y → x ≡ y
 some_entry x y e = cc
@@ -207,20 +207,20 @@ apart_names name other apart e at = ap (λ n. same_name n name)
 -- ---- links
 
 -- the order of names ties exactly where they are the same
-one_name : (a b : List ℕ) → ties a b ≡ true → a ≡ b
+one_name : (a b : List ℕ) → is_named a b ≡ true → a ≡ b
 one_name a b tied = same_name-equal a b (texts_ties a b ∙ tied)
 
 -- another name leads where it led
-others-kept : (name other : List ℕ) (old new : List (List ℕ × Link)) → KeepsOthers ties (ties name) old new
-    → same_name name other ≡ false → lookup (ties other) new ≡ lookup (ties other) old
+others-kept : (name other : List ℕ) (old new : List (List ℕ × Link)) → KeepsOthers is_named (is_named name) old new
+    → same_name name other ≡ false → lookup (is_named other) new ≡ lookup (is_named other) old
 unfolding KeepsOthers
 others-kept name other old new kept apart =
-    kept (ties other) (λ x y at. ap (λ n. ties n y) (one_name other x at))
-    (λ k at. ap (λ n. ties other n) (sym (one_name name k at)) ∙ sym (texts_ties other name)
+    kept (is_named other) (λ x y at. ap (λ n. is_named n y) (one_name other x at))
+    (λ k at. ap (λ n. is_named other n) (sym (one_name name k at)) ∙ sym (texts_ties other name)
     ∙ same_name-swap other name ∙ apart)
 
 pub AreLinked-removed : (name : List ℕ) (old new : List (List ℕ × Link)) (es : List Entry)
-    → KeepsOthers ties (ties name) old new → lookup (ties name) new ≡ None
+    → KeepsOthers is_named (is_named name) old new → lookup (is_named name) new ≡ None
     → AreLinked old es → AreLinked new (filter (λ e. not (same_name e.name name)) es)
 AreLinked-removed name old new es kept none linked = λ n. by n (same_name name n) refl
   where
@@ -238,7 +238,7 @@ AreLinked-removed name old new es kept none linked = λ n. by n (same_name name 
         (apart_names name n apart) es))
 
 pub AreLinked-put : (x : Entry) (l : Link) (old new : List (List ℕ × Link)) (es : List Entry) → l.file ≡ x.file
-    → l.cookie ≡ x.cookie → KeepsOthers ties (ties x.name) old new → lookup (ties x.name) new ≡ Some l
+    → l.cookie ≡ x.cookie → KeepsOthers is_named (is_named x.name) old new → lookup (is_named x.name) new ≡ Some l
     → AreLinked old es → AreLinked new (filter (λ e. not (same_name e.name x.name)) es ++ x ∷ [])
 AreLinked-put x l old new es same_file same_cookie kept here linked = λ n. by n (same_name x.name n) refl
   where

@@ -1,4 +1,3 @@
-pub mod Keys
 pub mod EntryViews
 pub mod Outcomes
 pub mod Stored

@@ -13,10 +13,10 @@ ghost use Rattle.fs_tree.specs.Stored.{AreBefore, files_led, fitting_with, in_di
 ghost use Rattle.fs_tree.specs.Views.{lead_of};
 
 use crate::files::Files;
-use crate::key::{LentKey, NameKey};
 use crate::listing::{ENTRY_LEN, MOST_LISTED, Record, record_len};
 use arrayvec::ArrayVec;
 use fuse_spec::is_dots;
+use fuse_tables::{LentName, NameKey, NumberKey};
 use std::alloc::{AllocError, Allocator};
 use std::collections::BTreeMap;
 use std::marker::Model;
@@ -48,7 +48,7 @@ pub(crate) struct NamedFile<A: Allocator> {
 /// | `list`, `files_listed` | log `n` steps, and one for each name that is listed |
 #[derive(Drop)]
 pub(crate) struct Entries<A: Allocator> {
-    names: BTreeMap<u64, NamedFile<A>, A>,
+    names: BTreeMap<NumberKey, NamedFile<A>, A>,
     links: BTreeMap<NameKey<A>, Link, A>,
     alloc: A,
 }
@@ -90,7 +90,7 @@ impl<A: Allocator + Copy> Entries<A> {
     pub(crate) fn file_at(&self, name: &[u8]) -> Option<u64>
         ensures { result ≡ option_map (λ e. e.file) (find (λ e. same_name e.name name.now) self.now) }
     {
-        match self.links.get(LentKey::of(name)) {
+        match self.links.get(LentName::of(name)) {
             Some(link) => Some(link.file),
             None => None,
         }
@@ -100,7 +100,7 @@ impl<A: Allocator + Copy> Entries<A> {
     pub(crate) fn cookie_at(&self, name: &[u8]) -> Option<u64>
         ensures { result ≡ option_map (λ e. e.cookie) (find (λ e. same_name e.name name.now) self.now) }
     {
-        match self.links.get(LentKey::of(name)) {
+        match self.links.get(LentName::of(name)) {
             Some(link) => Some(link.cookie),
             None => None,
         }
@@ -111,7 +111,7 @@ impl<A: Allocator + Copy> Entries<A> {
         ensures { self.new ≡ filter (λ e. not (same_name e.name name.now)) self.old }
     {
         let cookie = self.cookie_at(name);
-        let _link = self.links.remove(LentKey::of(name));
+        let _link = self.links.remove(LentName::of(name));
         take_away(&mut self.names, cookie);
     }
 
@@ -127,7 +127,7 @@ impl<A: Allocator + Copy> Entries<A> {
             name: copy_of(&name, self.alloc)?,
             file: link.file,
         };
-        let _none = self.names.insert(link.cookie, leaf)?;
+        let _none = self.names.insert(NumberKey(link.cookie), leaf)?;
         match self.links.insert(NameKey::new(name), link) {
             Ok(replaced) => {
                 take_away(&mut self.names, cookie_of(replaced));
@@ -158,14 +158,17 @@ impl<A: Allocator + Copy> Entries<A> {
         let most = self.names.len().min(size / 32);
         let mut records = Vec::with_capacity(self.alloc, most)?;
         let mut room = size;
-        for (cookie, leaf) in self.names.range((Bound::Excluded(after), Bound::Unbounded)) {
+        for (cookie, leaf) in self
+            .names
+            .range((Bound::Excluded(NumberKey(after)), Bound::Unbounded))
+        {
             let len = more + record_len(&leaf.name);
             if len > room {
                 break;
             }
             records.push(Record {
                 name: &leaf.name,
-                cookie: *cookie,
+                cookie: cookie.0,
                 kind: files.kind(leaf.file),
                 file: leaf.file,
             })?;
@@ -184,7 +187,10 @@ impl<A: Allocator + Copy> Entries<A> {
     {
         let mut listed = ArrayVec::new();
         let mut room = size;
-        for (_, leaf) in self.names.range((Bound::Excluded(after), Bound::Unbounded)) {
+        for (_, leaf) in self
+            .names
+            .range((Bound::Excluded(NumberKey(after)), Bound::Unbounded))
+        {
             let len = ENTRY_LEN + record_len(&leaf.name);
             if len > room {
                 break;
@@ -219,13 +225,13 @@ fn cookie_of(link: Option<Link>) -> Option<u64>
 }
 
 /// Takes the name with this cookie away, if there is one.
-fn take_away<A: Allocator>(names: &mut BTreeMap<u64, NamedFile<A>, A>, cookie: Option<u64>)
+fn take_away<A: Allocator>(names: &mut BTreeMap<NumberKey, NamedFile<A>, A>, cookie: Option<u64>)
     ensures entries { names.new.entries ≡ without_key cookie names.old.entries }
     ensures was_ordered { IsOrdered nat_cmp names.old }
 {
     let _len = names.len();
     if let Some(cookie) = cookie {
-        let _leaf = names.remove(&cookie);
+        let _leaf = names.remove(&NumberKey(cookie));
     }
 }
 

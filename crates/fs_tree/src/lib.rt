@@ -11,7 +11,6 @@ mod directories;
 mod entries;
 mod error;
 mod files;
-mod key;
 mod listing;
 mod names;
 mod operations;

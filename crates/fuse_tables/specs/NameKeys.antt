@@ -5,6 +5,7 @@ use Rattle.std.specs.Ordering.{eq_by_cmp, nat_cmp, ordering_then}
 use Rattle.std.specs.Cmp.{IsTotalOrder, nat_cmp_total, on_total, then_total}
 use Rattle.std.specs.Cmp.Lexicographic.{slice_cmp, nat_list_cmp_total}
 use Rattle.fuse_tables.specs.NameFronts.{front_of}
+use Rattle.fuse_tables.specs.declared.name_key.LentName.{LentName}
 
 -- by the number of the first bytes, and then by all of them
 abbrev pub name_cmp : List ℕ → List ℕ → Ordering
@@ -17,3 +18,7 @@ name_total = then_total (on_total front_of nat_cmp_total) nat_list_cmp_total
 -- the key is that of the name
 abbrev pub is_named : List ℕ → List ℕ → Bool
 is_named name key = eq_by_cmp (slice_cmp nat_cmp) name key
+
+-- the name that is sought
+abbrev pub name_sought : LentName → List ℕ
+name_sought lent = lent.name.now

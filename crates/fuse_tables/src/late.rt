@@ -10,13 +10,14 @@ ghost use Rattle.fuse_tables.specs.KeyTests.{Tells, kept_by};
 use crate::live_rows::{
     Rows, free_row, is_above, is_below, push_last, put_row, replace_row, take_row, value_in,
 };
+use crate::number_key::NumberKey;
 use std::alloc::Allocator;
 use std::collections::BTreeMap;
 use std::mem::replace;
 
 /// The values whose keys stood between those of rows when they were put: none, as long as keys rise. The map is
 /// ordered, and not of hashes, so that no choice of keys makes a look-up longer.
-pub(crate) type Late<V, A> = BTreeMap<u64, V, A>;
+pub(crate) type Late<V, A> = BTreeMap<NumberKey, V, A>;
 
 /// A table that holds no more rows than this has no map: a value that is put between others moves at most half of them.
 const FEW: usize = 32;
@@ -31,7 +32,7 @@ fn value_beside<'a, V, A: Allocator>(
     requires { AreKept rows.now.items late.now.entries }
     ensures { option_copied result ≡ value_at (entries_of rows.now.items late.now.entries) key }
 {
-    if let Some(value) = late.get(&key) {
+    if let Some(value) = late.get(&NumberKey(key)) {
         return Some(value);
     }
     value_in(rows, key)
@@ -51,7 +52,7 @@ fn take_beside<V: Drop, A: Allocator>(
     ensures kept { AreKept rows.new.items late.new.entries }
     ensures capacity { deque_capacity rows.new ≡ deque_capacity rows.old }
 {
-    if let Some(value) = late.remove(&key) {
+    if let Some(value) = late.remove(&NumberKey(key)) {
         return Some(value);
     }
     take_row(rows, key)
@@ -77,7 +78,7 @@ fn put_late<V: Drop, A: Allocator + Copy>(
     if rows.capacity() <= FEW || is_below(rows, key) {
         return put_row(rows, key, value);
     }
-    match late.insert(key, value) {
+    match late.insert(NumberKey(key), value) {
         Ok(_) => {}
         Err(back) => put_row(rows, key, back.value.1),
     }
@@ -159,7 +160,7 @@ fn replace_beside<V: Drop, A: Allocator>(
     ensures kept { AreKept rows.new.items late.new.entries }
     ensures capacity { deque_capacity rows.new ≡ deque_capacity rows.old }
 {
-    if let Some(there) = late.get_mut(&key) {
+    if let Some(there) = late.get_mut(&NumberKey(key)) {
         return Some(replace(there, value));
     }
     replace_row(rows, key, value)
@@ -208,6 +209,6 @@ pub(crate) fn retain_values<V: Drop, A: Allocator, F: Fn(u64) -> bool>(
     if late.is_empty() {
         return rows.len();
     }
-    late.retain(|key, _| keep(*key));
+    late.retain(|key, _| keep(key.0));
     rows.len() + late.len()
 }

@@ -1,5 +1,5 @@
 //! Tables kept in the order of their keys, with room that is made before it is used, what stands at a place of a queue,
-//! and what ordered maps compare of a name first.
+//! and the keys of ordered maps.
 #![tactic(auto)]
 
 mod late;
@@ -7,13 +7,16 @@ mod list;
 mod listed;
 mod live_rows;
 mod name_front;
+mod name_key;
+mod number_key;
 mod queue;
 mod rising;
 mod rows_by_key;
 mod table;
 mod tally;
 
-pub use name_front::front_of;
+pub use name_key::{LentName, NameKey};
+pub use number_key::NumberKey;
 pub use queue::{last, take_at};
 pub use rising::RisingTable;
 pub use rows_by_key::find_row;

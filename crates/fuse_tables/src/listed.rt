@@ -43,9 +43,9 @@ pub(crate) fn list_entries<V: Copy, A: Allocator + Copy>(
     let mut list = Vec::new(alloc);
     let mut from = 0;
     for (key, value) in late {
-        let to = place_in(rows, *key);
+        let to = place_in(rows, key.0);
         push_rows(&mut list, rows, from, to)?;
-        list.push((*key, *value))?;
+        list.push((key.0, *value))?;
         from = to;
     }
     push_rows(&mut list, rows, from, rows.len())?;

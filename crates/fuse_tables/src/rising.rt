@@ -11,6 +11,7 @@ ghost use Rattle.fuse_tables.specs.KeyTests.{Tells, kept_by};
 use crate::late::{Late, put_value, replace_value, retain_values, take_value, value_of};
 use crate::listed::list_entries;
 use crate::live_rows::{Rows, find_live, is_above};
+use crate::number_key::NumberKey;
 use std::alloc::{AllocError, Allocator, Global};
 use std::collections::{BTreeMap, VecDeque};
 use std::marker::Model;
@@ -30,7 +31,7 @@ use std::marker::Model;
 ///
 /// | Call | Time |
 /// |---|---|
-/// | `get`, `get_mut`, `replace`, `remove` | log `n` steps; one at either end or beyond it, or where no key came late and those of the rows have no gaps, or rise by two |
+/// | `get`, `get_mut`, `replace`, `remove` | log `n` steps; one where no key came late and the key is at either end or beyond it, or the rows' keys have no gaps, or rise by two |
 /// | `put` | log `n` steps, or one for a key above all, on the whole of many calls: at times one moves all rows |
 /// | `is_above` | one step |
 /// | `reserve` | one step, on the whole of many calls: at times one moves all rows |
@@ -130,7 +131,7 @@ impl<V: Drop, A: Allocator + Copy> RisingTable<V, A> {
         ensures sorted { T (is_sorted nat_cmp self.old.entries) }
     {
         let Some(place) = find_live(&self.rows, key) else {
-            return self.late.get_mut(&key);
+            return self.late.get_mut(&NumberKey(key));
         };
         let row = &mut self.rows[place];
         let value = row.1.as_mut()?;

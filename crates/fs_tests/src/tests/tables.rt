@@ -2,7 +2,7 @@
 
 use crate::tests::assert_between;
 use fail_at::FailAt;
-use fuse_tables::{RisingTable, front_of};
+use fuse_tables::RisingTable;
 use std::alloc::{AllocError, Allocator};
 use std::test::Fail;
 
@@ -288,16 +288,5 @@ fn each_growth_of_a_table_refused(rt: HostRuntime) -> Result<(), Fail> {
         runs = n;
     }
     assert_between(&rt, runs, 4, 80);
-    Ok(())
-}
-
-/// Of no bytes, of fewer than eight, and of more: the ninth does not count.
-#[test]
-fn the_front_of_a_name(rt: HostRuntime) -> Result<(), Fail> {
-    assert!(rt; front_of(b"") == 0);
-    assert!(rt; front_of(b"ab") == 0x6162);
-    assert!(rt; front_of(b"abcdefgh") == 0x6162_6364_6566_6768);
-    assert!(rt; front_of(b"abcdefghi") == 0x6162_6364_6566_6768);
-    assert!(rt; front_of(&[255; 10]) == u64::MAX);
     Ok(())
 }

@@ -26,7 +26,7 @@ loop-cookie-preserved g c =
     ap (λ n. more + n) (rw c.deref.ensures.value at (sym c.record_len.ensures.len)) in
     let fits = under (more + c.record_len.result) c.loop-cookie.room c.if-len-room.false in
     let done = rw c.in-Some.ensures.steps at c.loop-cookie.invariant in
-    rw (c.in_ok-push.ensures.items, map-append, c.kind.ensures, c.deref-in-loop-cookie.ensures.value)
+    rw (c.in_ok-push.ensures.items, map-append, c.cookie.view_is, c.kind.ensures, c.deref-in-loop-cookie.ensures.value)
     (sym (fitting-more more rest r c.loop-cookie.room (more + c.record_len.result) size
     (map lead_of c.loop-cookie.records.items) fits) ∙ done)
 

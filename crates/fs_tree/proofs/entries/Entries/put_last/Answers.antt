@@ -2,7 +2,7 @@ use Rattle.std.proofs.Common.{ap, sym, ◌∙◌, map, refl, Some}
 use Rattle.std.specs.Option.{option_map}
 use Rattle.fs_tree.specs.Stored.{Entry, without_key}
 use Rattle.fs_tree.specs.EntryViews.{leaf_entry}
-use Rattle.fs_tree.proofs.KeyOrder.{found_key, kept_key}
+use Rattle.fuse_tables.proofs.NameKeys.{found_by_key, kept_by_key}
 use Rattle.fs_tree.proofs.NameLinks.{AreLinked-put, cookie-of, AreNamedOnce-put, put-entries, unput-entries}
 use Rattle.fs_tree.proofs.entries.Entries.put_last.Goals as goal
 
@@ -12,7 +12,7 @@ invariant_of-self-in-Ok g c =
     let name = c.args.name.items in
     let links = c.self.inside.links.entries in
     let replaced = c.cookie_of.ensures
-    ∙ ap (option_map (λ l. l.cookie)) (c.in-Ok.ensures.old ∙ found_key links name c.new.result c.new.ensures)
+    ∙ ap (option_map (λ l. l.cookie)) (c.in-Ok.ensures.old ∙ found_by_key links name c.new.result c.new.ensures)
     ∙ cookie-of _ _ (c.self.invariant.0 name) in
     let updates = c.in-Ok.ensures.updates in
     let x : Entry = record { name = c.args.name.items; file = c.args.link.file; cookie = c.args.link.cookie } in
@@ -25,8 +25,8 @@ invariant_of-self-in-Ok g c =
       c.deref.ensures.value,
     ) (
       AreLinked-put x c.args.link links _ (map leaf_entry c.self.inside.names.entries) refl refl
-          (kept_key name c.new.result c.new.ensures links _ updates.3)
-          (sym (found_key _ name c.new.result c.new.ensures) ∙ updates.1) c.self.invariant.0,
+          (kept_by_key name c.new.result c.new.ensures links _ updates.3)
+          (sym (found_by_key _ name c.new.result c.new.ensures) ∙ updates.1) c.self.invariant.0,
       AreNamedOnce-put (map leaf_entry c.self.inside.names.entries) x c.self.invariant.1,
     )
 
@@ -36,7 +36,7 @@ returns-in-Ok-clause-ok g c =
     let name = c.args.name.items in
     let links = c.self.inside.links.entries in
     let replaced = c.cookie_of.ensures
-    ∙ ap (option_map (λ l. l.cookie)) (c.in-Ok.ensures.old ∙ found_key links name c.new.result c.new.ensures)
+    ∙ ap (option_map (λ l. l.cookie)) (c.in-Ok.ensures.old ∙ found_by_key links name c.new.result c.new.ensures)
     ∙ cookie-of _ _ (c.self.invariant.0 name) in
     rw (← c.self.view_is)
     (ap (map leaf_entry) c.take_away.ensures.entries

@@ -2,7 +2,8 @@ use Rattle.std.proofs.Common.{ap, sym, ◌∙◌, map, not}
 use Rattle.fuse_spec.specs.Files.Trees.{same_name}
 use Rattle.fs_tree.specs.Stored.{without_key}
 use Rattle.fs_tree.specs.EntryViews.{leaf_entry}
-use Rattle.fs_tree.proofs.KeyOrder.{found_lent, kept_lent}
+use Rattle.fuse_tables.specs.NameKeys.{name_sought}
+use Rattle.fuse_tables.proofs.NameKeys.{found_by_key, kept_by_key}
 use Rattle.fs_tree.proofs.NameLinks.{AreLinked-removed, AreNamedOnce-where, removed-entries}
 use Rattle.fs_tree.proofs.entries.Entries.remove.Goals as goal
 
@@ -10,16 +11,15 @@ pub invariant_of-self : goal.invariant_of-self
 invariant_of-self g c =
     let cookie = rw (← c.self.view_is) at c.cookie_at-cookie.ensures in
     let links = c.self.inside.links.entries in
-    let lent = c.of.result.name.now in
-    let front = c.of.result.front in
+    let lent = name_sought c.of.result in
     rw (
       c.take_away.ensures.entries,
       cookie,
       removed-entries c.args.name.now c.self.inside.names.entries c.self.invariant.1 c.take_away.ensures.was_ordered,
     ) (
       AreLinked-removed c.args.name.now links _ (map leaf_entry c.self.inside.names.entries)
-          (kept_lent c.args.name.now lent front c.of.ensures.front c.of.ensures.name links _ c.remove-link.ensures.updates.3)
-          (sym (found_lent _ c.args.name.now lent front c.of.ensures.front c.of.ensures.name) ∙ c.remove-link.ensures.updates.1)
+          (kept_by_key c.args.name.now lent c.of.ensures links _ c.remove-link.ensures.updates.3)
+          (sym (found_by_key _ c.args.name.now lent c.of.ensures) ∙ c.remove-link.ensures.updates.1)
           c.self.invariant.0,
       AreNamedOnce-where (λ e. not (same_name e.name c.args.name.now))
           (map leaf_entry c.self.inside.names.entries) c.self.invariant.1,
