@@ -77,6 +77,19 @@ fn find_in<V>(rows: &[(u64, V)], key: u64) -> Option<usize>
     search_in(rows, key)
 }
 
+/// Puts a row before others, for which there is room.
+#[inline(never)]
+fn insert_at<V: Drop, A: Allocator>(rows: &mut Vec<(u64, V), A>, place: usize, row: (u64, V))
+    requires place { place ≤ vec_len rows.old }
+    requires room { vec_len rows.old < vec_capacity rows.old }
+    ensures items { rows.new.items ≡ inserted rows.old.items place row }
+    ensures len { vec_len rows.new ≡ vec_len rows.old + 1 }
+    ensures capacity { vec_capacity rows.old ≤ vec_capacity rows.new }
+{
+    let put: Result<(), _> = rows.insert(place, row);
+    put.unwrap();
+}
+
 /// Puts a row at a place, for which there is room. Most keys rise, so most rows come last.
 #[inline(always)]
 fn put_at<V: Drop, A: Allocator>(rows: &mut Vec<(u64, V), A>, place: usize, row: (u64, V))
@@ -89,8 +102,7 @@ fn put_at<V: Drop, A: Allocator>(rows: &mut Vec<(u64, V), A>, place: usize, row:
     if place == rows.len() {
         return rows.push_reserved(row);
     }
-    let put: Result<(), _> = rows.insert(place, row);
-    put.unwrap();
+    insert_at(rows, place, row)
 }
 
 impl<V: Drop, A: Allocator + Copy> Table<V, A> {
