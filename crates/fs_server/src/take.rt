@@ -1,6 +1,6 @@
 //! Request frames are taken.
 
-ghost use Rattle.std.specs.Prelude.{◌≡◌, ◌≤◌, ◌∷◌, [], true, false, None, nat_lt, OnErr, OnOk, IfErr, IfOk, MatchResult};
+ghost use Rattle.std.specs.Prelude.{◌≡◌, ◌<◌, ◌≤◌, ◌∷◌, [], true, false, None, nat_lt, OnErr, OnOk, IfErr, IfOk, MatchResult};
 ghost use Rattle.std.specs.List.{list_any};
 ghost use Rattle.fuse_spec.specs.Values.Maps.{get};
 ghost use Rattle.fuse_spec.specs.Server.Server.{count_in, forgetting, forgotten, holding};
@@ -14,11 +14,14 @@ ghost use Rattle.fs_server.specs.Taking.{IsFaultless, request_body_of, forgets_i
 
 use crate::held_requests::held_request;
 use crate::interrupts::taken_as;
+use crate::replies::KeptReply;
 use crate::server::{ServerFault, ServerOf, Taken};
 use fk_wire::{Pairs, Request, RequestBody};
-use fs_files::Files;
+use fs_files::{Files, HeldRequest};
 use fs_nodes::NodeStore;
 use fuse_spec::Taken as TakenWord;
+use fuse_tables::RisingTable;
+use std::alloc::{AllocError, Allocator};
 
 impl<S: NodeStore> ServerOf<S> {
     /// Takes a request frame: forgets and INTERRUPTs are done at once, and any other request is held until it is
@@ -63,13 +66,17 @@ impl<S: NodeStore> ServerOf<S> {
         ensures held { OnOk result (self.new ≡ holding self.old request.now.unique
             (request_body_of request.now.nodeid (request_content request.now.body))) }
     {
-        let Ok(()) = self.held.reserve(1) else {
+        let Ok(()) = reserve_held(&mut self.held, &mut self.kept) else {
             return Err(ServerFault::Memory);
         };
         let Ok(held) = held_request(self.alloc, self.files.nodes(), request) else {
             return Err(ServerFault::Memory);
         };
         self.held.put(request.unique, held);
+        // Where several are held, a reply may come behind those of later requests.
+        if self.held.len() > 1 {
+            self.kept.set_aside(request.unique, self.held.len());
+        }
         Ok(taken_as(request.unique, TakenWord::Held))
     }
 
@@ -80,6 +87,24 @@ impl<S: NodeStore> ServerOf<S> {
     {
         forget(&mut self.files, request.nodeid, &request.body);
     }
+}
+
+/// Makes room for one more held request, and where several are held then, for a row for the reply of each.
+#[inline(always)]
+fn reserve_held<A: Allocator + Copy>(
+    held: &mut RisingTable<HeldRequest<A>, A>,
+    kept: &mut RisingTable<KeptReply<A>, A>,
+) -> Result<(), AllocError>
+    ensures held { held.new.entries ≡ held.old.entries }
+    ensures kept { kept.new.entries ≡ kept.old.entries }
+    ensures room { OnOk result (0 < held.new.room) }
+{
+    held.reserve(1)?;
+    let waiting = held.len();
+    if waiting == 0 {
+        return Ok(());
+    }
+    kept.reserve(waiting.saturating_add(1))
 }
 
 /// Whether a request gives lookups back.

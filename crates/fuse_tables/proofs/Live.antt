@@ -1,5 +1,5 @@
 -- Rows of which some are empty: what putting, taking and squeezing make of their entries.
-use Rattle.std.proofs.Common.{◌≡◌, ℕ, ◌≤◌, ◌+◌, Bool, true, false, not, cond, ◌&&◌, List, [], ◌∷◌, length, filter, is_some, IsSome, Option, Some, None, refl, sym, ap, subst, ◌∙◌, arith, T, nat_eq, Less, Equal, Greater}
+use Rattle.std.proofs.Common.{◌≡◌, ℕ, suc, nat_lt, ◌≤◌, ◌+◌, Bool, true, false, not, cond, ◌&&◌, List, [], ◌∷◌, ◌++◌, length, filter, is_some, IsSome, Option, Some, None, refl, sym, ap, subst, ◌∙◌, arith, T, nat_eq, Less, Equal, Greater}
 use Rattle.std.specs.Ordering.{nat_cmp, is_eq, eq_by_cmp}
 use Rattle.std.specs.FinMap.{is_sorted, nat_cmp-IsAntisymmetric}
 use Rattle.std.specs.FinMap.Entries.{below_all, find-put, find-where_key, same_entries, length-put}
@@ -9,7 +9,7 @@ use Rattle.fuse_spec.specs.Values.Maps.{get, put, remove}
 use Rattle.std.specs.Prelude.{slice_index_or}
 use Rattle.std.specs.List.{remove as removed}
 use Rattle.fuse_tables.specs.LiveRows.{live, entry_before}
-use Rattle.fuse_tables.specs.TableState.{IsRowOf}
+use Rattle.fuse_tables.specs.TableState.{IsRowOf, place_of}
 use Rattle.fuse_tables.proofs.Rows.{both_first, both_second, apart, tied, none_below, kept_above, read_there, without_there, sorted_with, sorted_without}
 
 pub both : (a b : Bool) → T a → T b → T (a && b)
@@ -47,6 +47,24 @@ module _ {X : Type 0} (test : ℕ × X → Bool) where
         | true ↦ both _ _ (below_filtered row.0 rows (both_first _ _ h)) rest
         | false ↦ rest
       ]
+
+  -- a key above all of them is above those that pass
+  pub above_filtered : (key : ℕ) (rows : List (ℕ × X)) → place_of key rows ≡ length rows
+      → place_of key (filter test rows) ≡ length (filter test rows)
+  above_filtered key [] h = refl
+  above_filtered key (row ∷ rows) h = by (nat_lt row.0 key) refl h (above_filtered key rows)
+    where
+      by : (b : Bool) → nat_lt row.0 key ≡ b → cond b (suc (place_of key rows)) 0 ≡ suc (length rows)
+          → (place_of key rows ≡ length rows → place_of key (filter test rows) ≡ length (filter test rows))
+          → place_of key (filter test (row ∷ rows)) ≡ length (filter test (row ∷ rows))
+      by false low e others = absurd (omega (arith, e))
+      by true low e others =
+          let rest = others (omega (arith, e)) in
+          elim (test row) as (λ b. place_of key (cond b (row ∷ filter test rows) (filter test rows))
+          ≡ length (cond b (row ∷ filter test rows) (filter test rows))) [
+            | true ↦ rw low (ap (λ (n : ℕ). suc n) rest)
+            | false ↦ rest
+          ]
 
   pub length_filtered : (rows : List (ℕ × X)) → length (filter test rows) ≤ length rows
   length_filtered [] = omega arith
@@ -184,6 +202,11 @@ module _ {V : Type 0} where
 
   abbrev pub has_value : ℕ × Option V → Bool
   has_value row = is_some row.1
+
+  -- an empty row behind others
+  pub live_behind : (rows : List (ℕ × Option V)) (key : ℕ) → live (rows ++ (key, None) ∷ []) ≡ live rows
+  live_behind [] key = refl
+  live_behind (row ∷ rows) key = ap (entry_before row.0 row.1) (live_behind rows key)
 
   pub live_squeezed : (rows : List (ℕ × Option V)) → live (filter has_value rows) ≡ live rows
   live_squeezed [] = refl

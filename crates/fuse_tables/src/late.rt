@@ -8,9 +8,11 @@ ghost use Rattle.fuse_tables.specs.LateValues.{AreKept, entries_of};
 ghost use Rattle.fuse_tables.specs.KeyTests.{Tells, kept_by};
 
 use crate::live_rows::{
-    Rows, free_row, is_above, is_below, push_last, put_row, replace_row, take_row, value_in,
+    Rows, fill_row, free_row, is_above, is_below, push_last, put_row, replace_row, take_row,
+    value_in,
 };
 use crate::number_key::NumberKey;
+use crate::rows_by_key::find_row;
 use std::alloc::Allocator;
 use std::collections::BTreeMap;
 use std::mem::replace;
@@ -58,10 +60,10 @@ fn take_beside<V: Drop, A: Allocator>(
     take_row(rows, key)
 }
 
-/// Puts a value at a key that is not above those of all rows: before them all or among few, or else into the map. Where that
-/// is out of memory too, the rows on the shorter side of the key move. There is room for a row.
-#[inline(never)]
-fn put_late<V: Drop, A: Allocator + Copy>(
+/// Puts a value at a key that has no row: behind them all, before them all or among few, or else into the map. Where that is out
+/// of memory too, the rows on the shorter side of the key move. There is room for a row.
+#[inline(always)]
+fn put_between<V: Drop, A: Allocator + Copy>(
     rows: &mut Rows<V, A>,
     late: &mut Late<V, A>,
     key: u64,
@@ -75,13 +77,37 @@ fn put_late<V: Drop, A: Allocator + Copy>(
     ensures kept { AreKept rows.new.items late.new.entries }
     ensures capacity { deque_capacity rows.old ≤ deque_capacity rows.new }
 {
-    if rows.capacity() <= FEW || is_below(rows, key) {
+    if rows.capacity() <= FEW || is_above(rows, key) || is_below(rows, key) {
         return put_row(rows, key, value);
     }
     match late.insert(NumberKey(key), value) {
         Ok(_) => {}
         Err(back) => put_row(rows, key, back.value.1),
     }
+}
+
+/// Puts a value at a key that has none: into its row, if one was set aside or left empty, or else between others, once the empty
+/// rows went where no other has room.
+#[inline(never)]
+fn put_late<V: Drop, A: Allocator + Copy>(
+    rows: &mut Rows<V, A>,
+    late: &mut Late<V, A>,
+    key: u64,
+    value: V,
+)
+    requires kept { AreKept rows.old.items late.old.entries }
+    requires few { length (entries_of rows.old.items late.old.entries) < deque_capacity rows.old }
+    requires absent { value_at (entries_of rows.old.items late.old.entries) key ≡ None }
+    ensures entries { entries_of rows.new.items late.new.entries
+        ≡ with_value (entries_of rows.old.items late.old.entries) key value }
+    ensures kept { AreKept rows.new.items late.new.entries }
+    ensures capacity { deque_capacity rows.old ≤ deque_capacity rows.new }
+{
+    if let Some(place) = find_row(rows, key) {
+        return fill_row(rows, place, key, value);
+    }
+    free_row(rows);
+    put_between(rows, late, key, value);
 }
 
 /// The value at a key.
@@ -116,8 +142,8 @@ pub(crate) fn put_value<V: Drop, A: Allocator + Copy>(
     ensures kept { AreKept rows.new.items late.new.entries }
     ensures capacity { deque_capacity rows.old ≤ deque_capacity rows.new }
 {
-    free_row(rows);
     if is_above(rows, key) {
+        free_row(rows);
         return push_last(rows, key, value);
     }
     put_late(rows, late, key, value);

@@ -81,6 +81,8 @@ pub(crate) fn squeeze<V: Drop, A: Allocator>(rows: &mut Rows<V, A>)
     requires { T (is_sorted nat_cmp rows.old.items) }
     ensures live { live rows.new.items ≡ live rows.old.items }
     ensures sorted { T (is_sorted nat_cmp rows.new.items) }
+    ensures above { (key : ℕ) → place_of key rows.old.items ≡ length rows.old.items
+        → place_of key rows.new.items ≡ length rows.new.items }
     ensures len { deque_len rows.new ≡ length (live rows.old.items) }
     ensures capacity { deque_capacity rows.new ≡ deque_capacity rows.old }
 {
@@ -94,6 +96,8 @@ pub(crate) fn free_row<V: Drop, A: Allocator>(rows: &mut Rows<V, A>)
     requires few { length (live rows.old.items) < deque_capacity rows.old }
     ensures live { live rows.new.items ≡ live rows.old.items }
     ensures sorted { T (is_sorted nat_cmp rows.new.items) }
+    ensures above { (key : ℕ) → place_of key rows.old.items ≡ length rows.old.items
+        → place_of key rows.new.items ≡ length rows.new.items }
     ensures room { deque_len rows.new < deque_capacity rows.new }
     ensures capacity { deque_capacity rows.new ≡ deque_capacity rows.old }
 {
@@ -136,6 +140,36 @@ pub(crate) fn push_last<V: Drop, A: Allocator>(rows: &mut Rows<V, A>, key: u64, 
     rows.push_back_reserved((key, Some(value)));
 }
 
+/// Puts an empty row last, at a key above those of all rows. There is room for a row.
+#[inline(always)]
+pub(crate) fn push_empty<V: Drop, A: Allocator>(rows: &mut Rows<V, A>, key: u64)
+    requires sorted { T (is_sorted nat_cmp rows.old.items) }
+    requires room { deque_len rows.old < deque_capacity rows.old }
+    requires above { place_of key rows.old.items ≡ length rows.old.items }
+    ensures live { live rows.new.items ≡ live rows.old.items }
+    ensures sorted { T (is_sorted nat_cmp rows.new.items) }
+    ensures capacity { deque_capacity rows.old ≤ deque_capacity rows.new }
+{
+    rows.push_back_reserved((key, None));
+}
+
+/// Puts a value into the row of its key.
+#[inline(always)]
+pub(crate) fn fill_row<V: Drop, A: Allocator>(
+    rows: &mut Rows<V, A>,
+    place: usize,
+    key: u64,
+    value: V,
+)
+    requires sorted { T (is_sorted nat_cmp rows.old.items) }
+    requires row { IsRowOf rows.old.items key place }
+    ensures live { live rows.new.items ≡ with_value (live rows.old.items) key value }
+    ensures sorted { T (is_sorted nat_cmp rows.new.items) }
+    ensures capacity { deque_capacity rows.new ≡ deque_capacity rows.old }
+{
+    rows[place].1 = Some(value);
+}
+
 /// Puts a value at a key that has none, among the rows. There is room for a row.
 pub(crate) fn put_row<V: Drop, A: Allocator>(rows: &mut Rows<V, A>, key: u64, value: V)
     requires sorted { T (is_sorted nat_cmp rows.old.items) }
@@ -146,8 +180,7 @@ pub(crate) fn put_row<V: Drop, A: Allocator>(rows: &mut Rows<V, A>, key: u64, va
 {
     let place = place_in(rows, key);
     if is_row_of(rows, place, key) {
-        rows[place].1 = Some(value);
-        return;
+        return fill_row(rows, place, key, value);
     }
     insert_at(rows, place, (key, Some(value)));
 }

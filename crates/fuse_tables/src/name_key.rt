@@ -37,6 +37,7 @@ impl<A: Allocator> Model for NameKey<A> {
 impl<A: Allocator> NameKey<A> {
     ghost use Rattle.fuse_tables.specs.NameKeys.{name_sought};
 
+    /// The key of a name, which it keeps.
     pub fn new(name: Vec<u8, A>) -> Self
         ensures { result ≡ name.items }
     {
@@ -44,6 +45,7 @@ impl<A: Allocator> NameKey<A> {
         NameKey { front, name }
     }
 
+    /// The bytes of the name.
     #[inline(always)]
     pub fn name(&self) -> &[u8]
         ensures { result.now ≡ self.now }
@@ -133,6 +135,7 @@ pub struct LentName<'a> {
 impl<'a> LentName<'a> {
     ghost use Rattle.fuse_tables.specs.NameKeys.{name_sought};
 
+    /// What finds the key of a name in a map.
     #[inline(always)]
     pub fn of(name: &'a [u8]) -> LentName<'a>
         ensures { name_sought result ≡ name.now }

@@ -6,8 +6,8 @@ ghost use Rattle.std.specs.Ordering.{nat_cmp};
 use std::cmp::Ordering;
 use std::marker::Model;
 
-/// A number as a key, in the order of numbers. A comparison asks first whether the key sought is above the other, as a
-/// search then only goes on: that takes half the steps of `u64`'s.
+/// A number as a key, in the order of numbers. A search passes the keys below the one sought, and stops at the first that
+/// isn't: so a comparison asks first whether the key sought is above, which takes half the steps of `u64`'s.
 #[derive(Drop)]
 pub struct NumberKey(pub u64);
 

@@ -10,7 +10,7 @@ ghost use Rattle.fuse_tables.specs.KeyTests.{Tells, kept_by};
 
 use crate::late::{Late, put_value, replace_value, retain_values, take_value, value_of};
 use crate::listed::list_entries;
-use crate::live_rows::{Rows, find_live, is_above};
+use crate::live_rows::{Rows, find_live, is_above, push_empty, squeeze};
 use crate::number_key::NumberKey;
 use std::alloc::{AllocError, Allocator, Global};
 use std::collections::{BTreeMap, VecDeque};
@@ -24,6 +24,8 @@ use std::marker::Model;
 /// fall. Where memory has no place for it there, and in a table of few rows, it gets a row, and those on the shorter side of
 /// it move.
 ///
+/// A row can be set aside for a key before it has a value, which then does not come late, unless the empty rows went first.
+///
 /// A value that is taken out between others leaves an empty row, and the empty rows go all at once where no row is left
 /// to fill. Room is half of what fits in all, so each such pass frees at least as many rows as it keeps.
 ///
@@ -34,7 +36,7 @@ use std::marker::Model;
 /// | `get`, `get_mut`, `replace`, `remove` | log `n` steps; one where no key came late and the key is at either end or beyond it, or the rows' keys have no gaps, or rise by two |
 /// | `put` | log `n` steps, or one for a key above all, on the whole of many calls: at times one moves all rows |
 /// | `is_above` | one step |
-/// | `reserve` | one step, on the whole of many calls: at times one moves all rows |
+/// | `reserve`, `set_aside` | one step, on the whole of many calls: at times one moves all rows |
 /// | `retain`, `clear` | `n` steps |
 /// | `list` | `n` steps, and log `n` for each entry that came late |
 #[derive(Drop)]
@@ -178,6 +180,33 @@ impl<V: Drop, A: Allocator + Copy> RisingTable<V, A> {
         // Half more than is asked for, or twice what there was.
         let grown = rows.saturating_add(rows / 2);
         self.rows.reserve(grown.saturating_sub(self.rows.len()))
+    }
+
+    /// Sets an empty row aside for a key above those of all rows, where there is room for it: a value that is put there later,
+    /// behind greater keys, stands in it. `waiting` keys or fewer have such a row and no value. Takes no memory, so that room
+    /// for as many is made before.
+    #[inline(always)]
+    pub fn set_aside(&mut self, key: u64, waiting: usize)
+        ensures entries { self.new.entries ≡ self.old.entries }
+        ensures room { self.old.room ≤ self.new.room }
+    {
+        if self.rows.len() == self.rows.capacity() {
+            self.free_rows(waiting);
+        }
+        if self.rows.len() < self.rows.capacity() && is_above(&self.rows, key) {
+            push_empty(&mut self.rows, key);
+        }
+    }
+
+    /// Lets the empty rows go where most are of no use.
+    #[cold]
+    fn free_rows(&mut self, waiting: usize)
+        ensures entries { self.new.entries ≡ self.old.entries }
+        ensures room { self.old.room ≤ self.new.room }
+    {
+        if self.rows.len() / 2 > self.count.saturating_add(waiting) {
+            squeeze(&mut self.rows);
+        }
     }
 
     /// Puts a value at a key that has none, into room that was made.

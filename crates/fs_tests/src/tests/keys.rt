@@ -6,9 +6,9 @@ use std::cmp::Ordering;
 use std::collections::BTreeMap;
 use std::test::Fail;
 
-/// The first two and the next two have one front each, of names of several lengths; the last three are alike in more than
-/// eight bytes.
-const NAMES: [&[u8]; 9] = [
+/// The first two and the next two have one front each, of names of several lengths; three are alike in more than eight
+/// bytes; the front of the last two is the greatest number.
+const NAMES: [&[u8]; 11] = [
     b"",
     b"\0",
     b"a",
@@ -18,6 +18,8 @@ const NAMES: [&[u8]; 9] = [
     b"abcdefghi",
     b"abcdefghj",
     b"abcdefghij",
+    b"\xff\xff\xff\xff\xff\xff\xff\xff",
+    b"\xff\xff\xff\xff\xff\xff\xff\xff\xff",
 ];
 
 /// A map of each of the names to its place among them.
@@ -43,13 +45,13 @@ fn count_found<A: Allocator>(map: &BTreeMap<NameKey<A>, usize, A>) -> usize {
 #[test]
 fn each_name_is_a_key_of_its_own(rt: HostRuntime) -> Result<(), Fail> {
     let mut map = places(rt.alloc())?;
-    assert!(rt; map.len() == 9 && count_found(&map) == 9);
+    assert!(rt; map.len() == 11 && count_found(&map) == 11);
     assert!(rt; map.get(LentName::of(b"abcdefg")).is_none());
     assert!(rt; map.get(LentName::of(b"abcdefghk")).is_none());
     assert!(rt; map.remove(LentName::of(b"a")) == Some(2));
-    assert!(rt; map.get(LentName::of(b"a")).is_none() && count_found(&map) == 8);
+    assert!(rt; map.get(LentName::of(b"a")).is_none() && count_found(&map) == 10);
     let again = map.insert(NameKey::new(b"abcdefgh".to_vec(rt.alloc())?), 20)?;
-    assert!(rt; again == Some(5) && map.len() == 8);
+    assert!(rt; again == Some(5) && map.len() == 10);
     Ok(())
 }
 
@@ -62,7 +64,7 @@ fn names_stand_by_their_fronts(rt: HostRuntime) -> Result<(), Fail> {
         order.push(*place)?;
         assert!(rt; NAMES.get(*place) == Some(&key.name()) && map.get(key.lent()) == Some(place));
     }
-    assert!(rt; order.as_slice() == [0, 1, 3, 2, 4, 5, 6, 8, 7].as_slice());
+    assert!(rt; order.as_slice() == [0, 1, 3, 2, 4, 5, 6, 8, 7, 9, 10].as_slice());
     Ok(())
 }
 

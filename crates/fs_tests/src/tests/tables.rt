@@ -90,9 +90,16 @@ fn change<A: Allocator + Copy>(alloc: A) -> Result<[u64; 3], AllocError> {
     Ok([replaced, even, found])
 }
 
-/// How many of a hundred keys a table has, finds and gives back, and has then.
-fn fill<A: Allocator + Copy>(alloc: A) -> Result<[u64; 4], AllocError> {
+/// How many of a hundred keys a table has, finds and gives back, and has then, where each third key below 3 times `aside` has
+/// a row set aside first.
+fn fill<A: Allocator + Copy>(alloc: A, aside: u64) -> Result<[u64; 4], AllocError> {
     let mut table = RisingTable::new(alloc);
+    if table.reserve(aside as usize).is_err() {
+        table.reserve(aside as usize)?;
+    }
+    for step in 0..aside {
+        table.set_aside(step.wrapping_mul(3), aside as usize);
+    }
     let put = put_all(&mut table);
     let len = table.len() as u64;
     let found = count_found(&table);
@@ -215,7 +222,7 @@ fn count_listed<A: Allocator + Copy>(alloc: A) -> Result<Option<usize>, AllocErr
 
 #[test]
 fn keys_in_any_order_are_found(rt: HostRuntime) -> Result<(), Fail> {
-    assert!(rt; fill(rt.alloc())? == [100, 100, 100, 0]);
+    assert!(rt; fill(rt.alloc(), 0)? == [100, 100, 100, 0]);
     Ok(())
 }
 
@@ -280,11 +287,24 @@ fn entries_are_listed_in_rising_key(rt: HostRuntime) -> Result<(), Fail> {
 }
 
 #[test]
+fn values_come_into_rows_that_were_set_aside(rt: HostRuntime) -> Result<(), Fail> {
+    assert!(rt; fill(rt.alloc(), 34)? == [100, 100, 100, 0]);
+    let heap = FailAt::new(rt.alloc());
+    let mut runs = 0;
+    for n in heap.each_growth(80) {
+        assert!(rt; fill(&heap, 34)? == [100, 100, 100, 0], "growth {n}");
+        runs = n;
+    }
+    assert_between(&rt, runs, 4, 80);
+    Ok(())
+}
+
+#[test]
 fn each_growth_of_a_table_refused(rt: HostRuntime) -> Result<(), Fail> {
     let heap = FailAt::new(rt.alloc());
     let mut runs = 0;
     for n in heap.each_growth(80) {
-        assert!(rt; fill(&heap)? == [100, 100, 100, 0], "growth {n}");
+        assert!(rt; fill(&heap, 0)? == [100, 100, 100, 0], "growth {n}");
         runs = n;
     }
     assert_between(&rt, runs, 4, 80);

@@ -3,7 +3,7 @@ use Rattle.fuse_spec.specs.Values.Maps.{put}
 use Rattle.fuse_tables.specs.LiveRows.{live}
 use Rattle.fuse_tables.specs.LateValues.{with_late}
 use Rattle.fuse_tables.proofs.Live.{sorted_live}
-use Rattle.fuse_tables.proofs.LateEntries.{absent_both, length_late, row_put, kept_row_put, kept_same}
+use Rattle.fuse_tables.proofs.LateEntries.{absent_both, length_late, row_put, kept_row_put}
 use Rattle.fuse_tables.proofs.late.put_value.Goals as goal
 
 pub free_row-requires-clause-few : goal.free_row-requires-clause-few
@@ -12,9 +12,8 @@ free_row-requires-clause-few g c =
     (sorted_live c.args.rows.now.items c.requires.kept.sorted) in
     omega (arith, fewer, c.requires.few)
 
-pub put_late-requires-clause-kept : goal.put_late-requires-clause-kept
-put_late-requires-clause-kept g c =
-    kept_same c.requires.kept c.free_row.new.rows.items c.free_row.ensures.sorted c.free_row.ensures.live
+pub push_last-requires-clause-above : goal.push_last-requires-clause-above
+push_last-requires-clause-above g c = c.free_row.ensures.above c.args.key (c.is_above.ensures c.if-is_above.true)
 
 pub returns-then-is_above-clause-entries : goal.returns-then-is_above-clause-entries
 returns-then-is_above-clause-entries g c =

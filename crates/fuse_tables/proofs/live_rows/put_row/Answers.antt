@@ -1,31 +1,16 @@
-use Rattle.std.proofs.Common.{◌≡◌, ◌∙◌, refl, ap, sym, subst, Some, None, Option, List, ℕ, T, insert}
+use Rattle.std.proofs.Common.{◌≡◌, ◌∙◌, ap, sym, subst, Some, None, Option, List, ℕ, T, insert}
 use Rattle.std.specs.Ordering.{nat_cmp}
 use Rattle.std.specs.FinMap.{is_sorted}
 use Rattle.fuse_spec.specs.Values.Maps.{get, put}
 use Rattle.fuse_tables.specs.LiveRows.{live}
 use Rattle.fuse_tables.specs.TableState.{place_of}
-use Rattle.fuse_tables.proofs.Rows.{put_is, replaced_there, sorted_with}
+use Rattle.fuse_tables.proofs.Rows.{put_is, sorted_with}
 use Rattle.fuse_tables.proofs.Live.{live_put}
 use Rattle.fuse_tables.proofs.live_rows.put_row.Goals as goal
 
 put_at_place : {V : Type 0} (rows : List (ℕ × Option V)) (key place : ℕ) (v : V) → place ≡ place_of key rows
     → get rows key ≡ None → insert rows place (key, Some v) ≡ put rows key (Some v)
 put_at_place rows key place v at absent = rw at (put_is rows key (Some v) absent)
-
-pub returns-then-is_row_of-clause-live : goal.returns-then-is_row_of-clause-live
-returns-then-is_row_of-clause-live g c =
-    let rows = c.args.rows.now.items in
-    ap live (replaced_there rows c.args.key c.place_in-place.result c.index_mut.result.now (Some c.args.value)
-    (Some c.args.value) (c.is_row_of.ensures.there c.if-is_row_of.true) c.index_mut.ensures.value refl)
-    ∙ live_put rows c.args.key c.args.value c.requires.sorted
-
-pub returns-then-is_row_of-clause-sorted : goal.returns-then-is_row_of-clause-sorted
-returns-then-is_row_of-clause-sorted g c =
-    let rows = c.args.rows.now.items in
-    let written = replaced_there rows c.args.key c.place_in-place.result c.index_mut.result.now (Some c.args.value)
-    (Some c.args.value) (c.is_row_of.ensures.there c.if-is_row_of.true) c.index_mut.ensures.value refl in
-    subst (λ es. T (is_sorted nat_cmp es)) (sym written) (sorted_with rows c.args.key (Some c.args.value)
-    c.requires.sorted)
 
 pub returns-clause-live : goal.returns-clause-live
 returns-clause-live g c =
