@@ -81,7 +81,7 @@ module _ {A : Type 0} where
   outcome_reply found_ms (outcome.Entry file) = operation.found file found_ms
   outcome_reply found_ms (outcome.Created file) = operation.created file found_ms file
   outcome_reply found_ms (outcome.Opened file) = operation.opened file
-  outcome_reply found_ms (outcome.ListedPlus records) =
+  outcome_reply found_ms (outcome.ListedPlus records names) =
       operation.listed_plus (map (pair_listed found_ms) (dirents_in_bytes records.items))
   outcome_reply found_ms (outcome.Reply reply) = reply_with (λ (entry : Entry). entry.nodeid) (λ (fh : ℕ). fh)
       (sent_wire reply)
@@ -91,13 +91,13 @@ module _ {A : Type 0} where
   outcome_errno o = 0
 
   abbrev pub outcome_len : Outcome A → ℕ
-  outcome_len (outcome.ListedPlus records) = 128 * length (dirents_in_bytes records.items) + length records.items
+  outcome_len (outcome.ListedPlus records names) = 128 * length (dirents_in_bytes records.items) + length records.items
   outcome_len (outcome.Reply reply) = sent_len reply
   outcome_len o = 0
 
   -- how many names an outcome lists together with their files
   abbrev pub outcome_names : Outcome A → ℕ
-  outcome_names (outcome.ListedPlus records) = length (dirents_in_bytes records.items)
+  outcome_names (outcome.ListedPlus records names) = length (dirents_in_bytes records.items)
   outcome_names (outcome.Reply reply) = sent_names reply
   outcome_names o = 0
 
@@ -107,7 +107,8 @@ module _ {A : Type 0} where
   IsRepliable tree (outcome.Entry file) = (file < counter_end) × IsThere tree file
   IsRepliable tree (outcome.Created file) = (file < counter_end) × IsThere tree file × IsTrue (is_regular tree file)
   IsRepliable tree (outcome.Opened file) = IsTrue (is_regular tree file)
-  IsRepliable tree (outcome.ListedPlus records) = AreRecordBytes records.items
+  IsRepliable tree (outcome.ListedPlus records names) = AreRecordBytes records.items
       × (128 * length (dirents_in_bytes records.items) + length records.items ≤ max_transfer)
       × All (IsListable tree) (dirents_in_bytes records.items)
+      × (names ≡ length (dirents_in_bytes records.items))
   IsRepliable tree (outcome.Reply reply) = NamesNoFile reply × IsSendable reply

@@ -30,8 +30,8 @@ pub enum Outcome<A: Allocator> {
     Entry { file: u64 },
     Created { file: u64 },
     Opened { file: u64 },
-    /// Records, as their frame has them: each is of the file of its inode number.
-    ListedPlus { records: Vec<u8, A> },
+    /// The records of this many names, as their frame has them: each is of the file of its inode number.
+    ListedPlus { records: Vec<u8, A>, names: usize },
     Reply { reply: SentReply<A> },
 }
 
