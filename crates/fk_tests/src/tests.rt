@@ -8,6 +8,7 @@ mod listings;
 mod names;
 mod pins;
 mod queues;
+mod records;
 mod uniques;
 mod wire;
 

@@ -264,6 +264,17 @@ one_dirent_list (d ∷ ds) place bytes h =
     let rest = one_dirent_list ds (record_end false place bytes) bytes first.1 in
     (rw (first.0, rest.0) refl, rest.1)
 
+-- bytes that are this many records reach their end by so many steps, with a name at each
+pub known_records : (ds : List DirentContent) (bytes : List ℕ) (count : ℕ) → AreRecords 0 bytes ds → length ds ≡ count
+    → (end_from false count 0 bytes ≡ length bytes) × NamesFrom false count 0 bytes
+known_records ds bytes count are same =
+    let one = one_dirent_list ds 0 bytes are.1 in
+    let names : NamesFrom false (length ds) 0 bytes =
+    names_of (length ds) 0 bytes (subst HaveRecordNames (sym one.0) are.0) in (
+      subst (λ (n : ℕ). end_from false n 0 bytes ≡ length bytes) same one.1,
+      subst (λ (n : ℕ). NamesFrom false n 0 bytes) same names,
+    )
+
 pub sizes_of_dirents : (count place : ℕ) (bytes : List ℕ) → end_from false count place bytes ≡ length bytes
     → place + sizes (dirents (dirents_from count place bytes)) ≡ length bytes
 unfolding end_from record_end

@@ -73,21 +73,18 @@ pub fn put_listing_head<A: Allocator>(out: &mut Vec<u8, A>, unique: u64, size: u
     put_u64(out, unique);
 }
 
-/// Appends one pair of an entry and a record, into room that is there: `struct fuse_direntplus`. The entry's
-/// nanoseconds are less than a second, and the record's name has at most 255 bytes.
-#[tactic(auto, using(std::proofs::Common::append_assoc, crate::proofs::Spelled::written_entries))]
-pub fn put_listed<A: Allocator>(out: &mut Vec<u8, A>, entry: &Entry, dirent: &Dirent<'_>)
-    requires room { vec_len out.old + (128 + sizes (dirent_fields
-        (dirent_content dirent.now) [])) ≤ vec_capacity out.old }
-    requires short { length dirent.now.name.now ≤ 255 }
-    ensures items { out.new.items ≡ out.old.items ++ spellings
-        (entry_fields (entry_content entry.now) (dirent_fields (dirent_content dirent.now) [])) }
-    ensures len { vec_len out.new ≡ vec_len out.old + (128 + sizes (dirent_fields (dirent_content dirent.now) [])) }
+/// Appends an entry and the bytes of a record, into room that is there: `struct fuse_direntplus`.
+#[tactic(auto, using(std::proofs::Common::append_assoc))]
+pub fn put_listed<A: Allocator>(out: &mut Vec<u8, A>, entry: &Entry, bytes: &[u8])
+    requires room { vec_len out.old + (128 + length bytes.now) ≤ vec_capacity out.old }
+    ensures items { out.new.items ≡ out.old.items ++ (spellings (entry_fields (entry_content entry.now) [])
+        ++ bytes.now) }
+    ensures len { vec_len out.new ≡ vec_len out.old + (128 + length bytes.now) }
     ensures capacity { vec_capacity out.old ≤ vec_capacity out.new }
-    ensures fits { InRange (entry_fields (entry_content entry.now) (dirent_fields (dirent_content dirent.now) [])) }
+    ensures fits { InRange (entry_fields (entry_content entry.now) []) }
 {
     put_entry(out, entry);
-    put_dirent(out, dirent);
+    put_bytes(out, bytes);
 }
 
 /// Appends one record (`struct fuse_dirent`).

@@ -52,5 +52,6 @@ pub use records_plus::{DirentPlus, RecordsPlus};
 pub use reply::{Reply, ReplyBody, ReplyHead};
 pub use request::{Request, RequestBody};
 pub use result_frame::{read_result, write_result};
+pub use walk::split_record;
 pub use writing::{put_pair, request_size, write_request, write_request_at, written_is_spelled};
 pub use writing_reply::{write_reply, write_reply_at, written_reply_is_spelled};

@@ -97,7 +97,7 @@ pub few_given : {A : Type 0} (tree : Tree) (ms : ℕ) (o : Outcome A) → IsRepl
 few_given tree ms (outcome.Entry file) repliable = omega arith
 few_given tree ms (outcome.Created file) repliable = omega arith
 few_given tree ms (outcome.Opened file) repliable = omega arith
-few_given tree ms (outcome.ListedPlus records) repliable = let most = repliable.1 in let few =
+few_given tree ms (outcome.ListedPlus records names) repliable = let most = repliable.1 in let few =
     few_files ms (dirents_in_bytes records.items) in omega (arith, most, few)
 few_given tree ms (outcome.Reply (said.Entry entry valid)) repliable = absurd repliable.0
 few_given tree ms (outcome.Reply (said.Negative valid)) repliable = omega arith

@@ -6,6 +6,7 @@ pub mod FilesListed
 pub mod Lookups
 pub mod DrawsFew
 pub mod EntriesPut
+pub mod EntriesStay
 pub mod NodeLemmas
 pub mod BornFiles
 pub mod Numbered

@@ -1,6 +1,6 @@
 -- Records that were put into bytes are those that the bytes have.
-use Rattle.std.proofs.Common.{◌≡◌, ℕ, ◌+◌, ◌-◌, ◌*◌, ◌/◌, Bool, true, false, cond, Option, Some, None, List, [], ◌∷◌, length, map, refl, rules, sym, ap, subst, ◌∙◌, ◌≤◌, ◌<◌, ◌^◌, true≢false, nat_eq, arith}
-use Rattle.std.specs.Prelude.{All, IsSome, MatchOption, filter, is_some, nat_le, nat_lt, sum_by}
+use Rattle.std.proofs.Common.{◌≡◌, ℕ, ◌+◌, ◌-◌, ◌*◌, ◌/◌, Bool, true, false, cond, List, [], ◌∷◌, length, map, refl, sym, ap, subst, ◌∙◌, ◌≤◌, ◌<◌, ◌^◌, true≢false, nat_eq, arith}
+use Rattle.std.specs.Prelude.{All, IsSome, filter, is_some, nat_le, nat_lt, sum_by}
 use Rattle.std.proofs.lemmas.Bool.{leb-true, ltb-true, ltb-false}
 use Rattle.std.proofs.lemmas.List.Elements.{All-cons, All-filter, All-head, All-map, All-nil, All-tail}
 use Rattle.fuse_spec.specs.Values.Maps.{get}
@@ -12,12 +12,10 @@ use Rattle.fuse_spec.specs.Files.Operations.{Dirent as SpecDirent}
 use Rattle.fuse_spec.specs.Files.Trees.{Named, Tree, fitting, directory_names, record_length, records_after}
 use Rattle.fuse_spec.specs.Files.Trees.{record_of as spec_record_of}
 use Rattle.fk_wire.specs.Dirents.{DirentContent, dirents, dirents_from, HaveRecordNames}
-use Rattle.fk_wire.specs.Fields.{InRange, ReadsAs, sizes, spellings}
-use Rattle.fk_wire.specs.Records.{records_in, AreRecords}
-use Rattle.fk_wire.specs.declared.records.Records.{Records}
+use Rattle.fk_wire.specs.Fields.{InRange, ReadsAs, spellings}
 use Rattle.fk_wire.proofs.Frames.{reads_back}
 use Rattle.fk_wire.proofs.OneReply.{counted_from, ends_beyond}
-use Rattle.fk_wire.proofs.RecordLists.{dirents_are_named, one_dirent_list, sizes_of_dirents}
+use Rattle.fk_wire.proofs.RecordLists.{dirents_are_named, one_dirent_list}
 use Rattle.fuse_frames.specs.ReplyTies.{dirent_read, dirent_written as dirent_written, kind_of_type, type_of, AreWritten}
 use Rattle.fuse_spec.specs.declared.Kind.{Kind}
 use Rattle.fuse_spec.specs.declared.Kind.TheVariants.{Directory, Regular, Other}
@@ -38,15 +36,6 @@ dirents_are ds bytes h =
     let beyond = ends_beyond false (length ds) 0 bytes in
     let few : length ds ≤ length bytes = omega (arith, beyond, one.1) in
     ap (λ (n : ℕ). dirents_from n 0 bytes) (counted_from (length bytes) false (length ds) 0 bytes one.1 few) ∙ one.0
-
-pub size_is : (ds : List DirentContent) (bytes : List ℕ) → ReadsAs 0 (dirents ds) bytes
-    → sizes (dirents ds) ≡ length bytes
-size_is ds bytes h =
-    let one = one_dirent_list ds 0 bytes h in
-    let all = sizes_of_dirents (length ds) 0 bytes one.1 in
-    let same : sizes (dirents (dirents_from (length ds) 0 bytes)) ≡ sizes (dirents ds) =
-    ap (λ (xs : List DirentContent). sizes (dirents xs)) one.0 in
-    omega (arith, all, same)
 
 abbrev AreTyped : List DirentContent → Type 0
 AreTyped ds = map dirent_written (map dirent_read ds) ≡ ds
@@ -90,22 +79,6 @@ pub listed_are : (rs : List Record) (bytes : List ℕ) → InRange (dirents (map
     → bytes ≡ spellings (dirents (map written_record_of rs)) → map dirent_read (dirents_in bytes) ≡ map viewed_dirent rs
 listed_are rs bytes fits is = ap (λ (xs : List DirentContent). map dirent_read xs)
     (dirents_are (map written_record_of rs) bytes (records_read (map written_record_of rs) bytes fits is)) ∙ records_back rs
-
--- ---- what is read over the bytes of records
-
-abbrev IsOver : List ℕ → Option Records → Type 0
-IsOver bytes r = MatchOption r ((ds : List DirentContent) → AreRecords 0 bytes ds → ⊥)
-    (λ p. AreRecords 0 bytes (records_in p))
-
-pub is_over : (bytes : List ℕ) (r : Option Records) → AreRecordBytes bytes → IsOver bytes r → IsSome r
-is_over bytes None h over = absurd (over (dirents_in bytes)
-    (h.named, records_read (dirents_in bytes) bytes h.fit h.spelled))
-is_over bytes (Some p) h over = search rules
-
-pub over_are : (bytes : List ℕ) (r : Option Records) (p : Records) → IsOver bytes r → r ≡ Some p
-    → (records_in p ≡ dirents_in bytes) × (sizes (dirents (records_in p)) ≡ length bytes)
-over_are bytes r p over is = let reads = (rw is at over).1 in
-    (sym (dirents_are (records_in p) bytes reads), size_is (records_in p) bytes reads)
 
 -- ---- how long records are
 

@@ -16,6 +16,7 @@ use Rattle.fs_files.specs.Performing.{Operates}
 use Rattle.fs_files.specs.Replies.{IsListable}
 use Rattle.fs_files.specs.declared.replies.Outcome.TheVariants as outcome
 use Rattle.fuse_frames.specs.declared.reply.Reply.TheVariants as said
+use Rattle.std.proofs.lemmas.List.{length-map}
 use Rattle.fs_files.proofs.Listing.{few_bytes, listed_are, listed_same, low_records, names_are_records}
 use Rattle.fs_files.proofs.PairListing.{few_pairs, listable_records, low_listed, pairs_are, pairs_same}
 
@@ -40,7 +41,7 @@ module _ (tree : Tree) (directory after size : ℕ) where
         (v : Validity) where
       -- what a READDIRPLUS results in
       pub lists_files : (with_files : Bool) → with_files ≡ true → Lists with_files tree directory after size rs
-          → Operates {A = A} v tree (listing with_files directory after size) (outcome.ListedPlus bytes) tree
+          → Operates {A = A} v tree (listing with_files directory after size) (outcome.ListedPlus bytes (length rs)) tree
       lists_files true e says =
           let same : fitting_pairs room (pairs_after v.found_ms tree directory after) ≡ map (viewed_pair v.found_ms) rs =
           pairs_same _ _ (says v) in
@@ -55,6 +56,7 @@ module _ (tree : Tree) (directory after size : ℕ) where
               few,
               subst (λ (ds : List Dirent). All (IsListable tree) ds) (sym (listed_are rs bytes.items fits is))
                   (listable_records tree shaped inodes v.found_ms directory after room rs same),
+              sym (length-map rs viewed_dirent) ∙ ap (λ (ds : List Dirent). length ds) (sym (listed_are rs bytes.items fits is)),
             );
             short = few;
           }

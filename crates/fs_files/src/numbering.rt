@@ -1,6 +1,6 @@
 //! Nodes and file handles are given to the files that a reply names.
 
-ghost use Rattle.std.specs.Prelude.{◌≡◌, ◌≢◌, ◌<◌, ◌≤◌, ◌+◌, ◌*◌, ◌^◌, ◌++◌, [], ℕ, All, IsTrue, List, None, Some, cond, length, map, vec_capacity};
+ghost use Rattle.std.specs.Prelude.{◌≡◌, ◌≢◌, ◌<◌, ◌≤◌, ◌+◌, ◌*◌, ◌^◌, ◌++◌, [], ℕ, All, IfSome, IsTrue, List, None, Some, cond, false, length, map, vec_capacity};
 ghost use Rattle.fuse_spec.specs.Server.Nodes.{IsUnheld, MayName, given, handle_opened, row_of};
 ghost use Rattle.fuse_spec.specs.Values.Numbers.{counter_end, max_transfer, max_validity};
 ghost use Rattle.fuse_spec.specs.Files.Operations.{files_in_reply, files_listed, first_listed, opens_in_reply};
@@ -68,23 +68,25 @@ impl<S: NodeStore> Files<S> {
             Outcome::Opened { file } => Reply::Opened {
                 fh: self.open(file),
             },
-            Outcome::ListedPlus { records } => {
-                Reply::ListedPlus(self.list(records, found_ms, spare))
+            Outcome::ListedPlus { records, names } => {
+                Reply::ListedPlus(self.list(records, names, found_ms, spare))
             }
             Outcome::Reply { reply } => reply,
         }
     }
 
-    /// Counts a lookup of each file that is listed, and gives the names with the entries of their files.
+    /// Counts a lookup of each file that is listed, and gives the names, this many, with the entries of their files.
     fn list(
         &mut self,
         records: Vec<u8, S::Heap>,
+        names: usize,
         found_ms: u64,
         spare: ListingBuffers<S::Heap>,
     ) -> ListedNames<S::Heap>
         requires listable { AreRecordBytes records.items
             × (128 * length (dirents_in_bytes records.items) + length records.items ≤ max_transfer)
             × All (IsListable self.old.tree) (dirents_in_bytes records.items) }
+        requires names { names ≡ length (dirents_in_bytes records.items) }
         requires room { length (dirents_in_bytes records.items) ≤ self.old.node_room }
         requires spare { HasSpare spare 0 (length (dirents_in_bytes records.items)) }
         requires generations { generations_after self.old.nodes
@@ -101,12 +103,11 @@ impl<S: NodeStore> Files<S> {
         ensures handles { self.new.handles ≡ self.old.handles }
         ensures sound { IsSoundNodeTable self.new.nodes }
     {
-        let listed = records_of(&records);
-        self.give_records(listed);
-        self.lemma_sound();
         let mut entries = spare.entries;
         let mut file_entries = spare.file_entries;
-        self.put_entries(listed, &mut entries, &mut file_entries);
+        let listed = records_of(&records, names);
+        self.give_listed(listed, &mut entries, &mut file_entries);
+        self.lemma_sound();
         ListedNames {
             records,
             entries,
@@ -115,32 +116,92 @@ impl<S: NodeStore> Files<S> {
         }
     }
 
-    /// Counts a lookup of the file of each record, one after another.
-    fn give_records(&mut self, records: Records<'_>)
+    /// Counts a lookup of the file of each record, and puts the entry of each name last, and among those of files too,
+    /// unless the name is `.` or `..`.
+    fn give_listed(
+        &mut self,
+        records: Records<'_>,
+        entries: &mut Vec<Entry, S::Heap>,
+        file_entries: &mut Vec<Entry, S::Heap>,
+    )
         requires listable { All (IsListable self.old.tree) (listed_in records) }
         requires few { length (listed_in records) ≤ 32 }
         requires room { length (listed_in records) ≤ self.old.node_room }
         requires generations { generations_after self.old.nodes
             (files_listed (map (pair_listed 0) (listed_in records))) ≤ counter_end }
         requires counted { AreHeldBelow self.old.nodes }
+        requires none { entries.old.items ≡ [] }
+        requires no_file_entries { file_entries.old.items ≡ [] }
+        requires entry_room { length (listed_in records) ≤ vec_capacity entries.old }
+        requires file_room { length (listed_in records) ≤ vec_capacity file_entries.old }
         ensures given { GivenEach self.old.nodes (files_listed
             (map (pair_listed 0) (listed_in records.entry))) self.new.nodes }
         ensures tree { self.new.tree ≡ self.old.tree }
         ensures handles { self.new.handles ≡ self.old.handles }
+        ensures entries { entries.new.items ≡ map (entry_named self.new.tree self.new.nodes) (listed_in records.entry) }
+        ensures file_entries { file_entries.new.items ≡ files_listed
+            (entries_named self.new.tree self.new.nodes (listed_in records.entry)) }
     {
-        'records: for record in records {
-            self.give_named(record.name, record.ino - 1);
+        if self.give_records(records, entries, file_entries) {
+            entries.clear();
+            file_entries.clear();
+            self.put_entries(records, entries, file_entries);
         }
     }
 
-    /// Counts a lookup of the file of a name, unless that is `.` or `..`.
-    fn give_named(&mut self, name: &[u8], file: u64)
+    /// Counts a lookup of the file of each record, one after another, and puts its entry last. Returns whether `.` or `..` is
+    /// among the names: then the entries are of no use, as such a name goes with the node that its file has in the end.
+    fn give_records(
+        &mut self,
+        records: Records<'_>,
+        entries: &mut Vec<Entry, S::Heap>,
+        file_entries: &mut Vec<Entry, S::Heap>,
+    ) -> bool
+        requires listable { All (IsListable self.old.tree) (listed_in records) }
+        requires few { length (listed_in records) ≤ 32 }
+        requires room { length (listed_in records) ≤ self.old.node_room }
+        requires generations { generations_after self.old.nodes
+            (files_listed (map (pair_listed 0) (listed_in records))) ≤ counter_end }
+        requires counted { AreHeldBelow self.old.nodes }
+        requires none { entries.old.items ≡ [] }
+        requires no_file_entries { file_entries.old.items ≡ [] }
+        requires entry_room { length (listed_in records) ≤ vec_capacity entries.old }
+        requires file_room { length (listed_in records) ≤ vec_capacity file_entries.old }
+        ensures given { GivenEach self.old.nodes (files_listed
+            (map (pair_listed 0) (listed_in records.entry))) self.new.nodes }
+        ensures tree { self.new.tree ≡ self.old.tree }
+        ensures handles { self.new.handles ≡ self.old.handles }
+        ensures entries { result ≡ false → entries.new.items
+            ≡ map (entry_named self.new.tree self.new.nodes) (listed_in records.entry) }
+        ensures file_entries { result ≡ false → file_entries.new.items ≡ files_listed
+            (entries_named self.new.tree self.new.nodes (listed_in records.entry)) }
+        ensures capacity { vec_capacity entries.old ≤ vec_capacity entries.new }
+        ensures file_capacity { vec_capacity file_entries.old ≤ vec_capacity file_entries.new }
+    {
+        let mut has_dots = false;
+        'records: for record in records {
+            match self.give_named(record.name, record.ino - 1) {
+                Some(entry) => {
+                    entries.push_reserved(entry);
+                    file_entries.push_reserved(entry);
+                }
+                None => has_dots = true,
+            }
+        }
+        has_dots
+    }
+
+    /// Counts a lookup of the file of a name, and gives its entry, unless the name is `.` or `..`.
+    fn give_named(&mut self, name: &[u8], file: u64) -> Option<Entry>
         requires file { file < counter_end }
         requires there { IsThere self.old.tree file }
         requires room { 0 < self.old.node_room }
         requires generations { generations_after self.old.nodes
             (first_listed (cond (is_dots name.now) None (Some file)) []) ≤ counter_end }
         requires counted { HaveCountsUpTo (2 ^ 63) self.old.nodes }
+        ensures entry { IfSome result (λ entry. (is_dots name.now ≡ false)
+            × IsSoundNodeTable self.old.nodes × IsSoundNodeTable self.new.nodes
+            × GivesEntry self.old.tree self.old.nodes file self.new.nodes entry) }
         ensures given { GivenEach self.old.nodes (first_listed
             (cond (is_dots name.now) None (Some file)) []) self.new.nodes }
         ensures tree { self.new.tree ≡ self.old.tree }
@@ -150,9 +211,12 @@ impl<S: NodeStore> Files<S> {
             ≡ generations_after self.old.nodes (first_listed (cond (is_dots name.now) None (Some file)) files) }
     {
         self.lemma_sound();
-        if !is_dots(name) {
-            let _node = self.give_node(file);
+        if is_dots(name) {
+            return None;
         }
+        let entry = self.give(file);
+        self.lemma_sound();
+        Some(entry)
     }
 
     /// Puts the entry of each name last, and among those of files too, unless the name is `.` or `..`.

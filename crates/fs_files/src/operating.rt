@@ -230,9 +230,10 @@ fn list<A: Allocator + Copy>(
     let Ok(records) = records_listed(tree, directory, after, size, with_files) else {
         return Err(AllocError);
     };
+    let names = records.len();
     let records = record_bytes(alloc, &records)?;
     if with_files {
-        return Ok(Outcome::ListedPlus { records });
+        return Ok(Outcome::ListedPlus { records, names });
     }
     Ok(Outcome::Reply {
         reply: Reply::Listed(records),

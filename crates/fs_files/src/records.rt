@@ -3,7 +3,7 @@
 ghost use Rattle.std.specs.Prelude.{◌≡◌, ◌<◌, All, IfOk, OnOk, length, map};
 ghost use Rattle.fuse_spec.specs.Values.Numbers.{counter_end};
 ghost use Rattle.fk_wire.specs.Dirents.{dirents, HaveRecordNames};
-ghost use Rattle.fk_wire.specs.Fields.{InRange, sizes, spellings};
+ghost use Rattle.fk_wire.specs.Fields.{InRange, spellings};
 ghost use Rattle.fk_wire.specs.Records.{dirent_content, records_in};
 ghost use Rattle.fs_tree.specs.declared.listing.Record.{Record as RecordValue};
 ghost use Rattle.fs_files.specs.Listed.{AreRecordBytes, dirents_in};
@@ -41,13 +41,13 @@ pub(crate) fn record_bytes<A: Allocator>(
     Ok(bytes)
 }
 
-/// The records that these bytes are.
-pub(crate) fn records_of(bytes: &[u8]) -> Records<'_>
-    requires { AreRecordBytes bytes.now }
-    ensures records { records_in result ≡ dirents_in bytes.now }
-    ensures len { sizes (dirents (records_in result)) ≡ length bytes.now }
+/// The records that these bytes are, this many.
+pub(crate) fn records_of(bytes: &[u8], count: usize) -> Records<'_>
+    requires records { AreRecordBytes bytes.now }
+    requires count { count ≡ length (dirents_in bytes.now) }
+    ensures { records_in result ≡ dirents_in bytes.now }
 {
-    Records::over(bytes).unwrap()
+    Records::over_known(bytes, count)
 }
 
 /// The type in a record: 4 for a directory, 8 for a file.

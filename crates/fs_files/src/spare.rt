@@ -5,7 +5,6 @@ ghost use Rattle.fuse_spec.specs.Files.Operations as reply;
 ghost use Rattle.fuse_spec.specs.Files.Operations.{files_listed};
 
 use crate::listed_names::ListedNames;
-use crate::records::records_of;
 use fuse_frames::{ReplyBuffer, ReplyFrame};
 use fuse_spec::Entry;
 use std::alloc::{AllocError, Allocator};
@@ -105,7 +104,6 @@ impl<A: Allocator> ListedNames<A> {
               (listed_pairs self.now.found_ms self.now.entries.items self.now.records.items);
         } }
     {
-        let records = records_of(&self.records);
-        room.listed_plus(unique, &self.entries, records, self.found_ms)
+        room.listed_plus(unique, &self.entries, &self.records, self.found_ms)
     }
 }

@@ -25,7 +25,7 @@ pub errno_said : {A : Type 0} (ms : ℕ) (o : Outcome A) → outcome_errno o ≡
 errno_said ms (outcome.Entry file) = refl
 errno_said ms (outcome.Created file) = refl
 errno_said ms (outcome.Opened file) = refl
-errno_said ms (outcome.ListedPlus records) = refl
+errno_said ms (outcome.ListedPlus records names) = refl
 errno_said ms (outcome.Reply (said.Entry entry valid)) = refl
 errno_said ms (outcome.Reply (said.Negative valid)) = refl
 errno_said ms (outcome.Reply (said.Created entry valid fh)) = refl
@@ -50,7 +50,7 @@ names_are : {A : Type 0} (ms : ℕ) (tree : Tree) (o : Outcome A) → IsRepliabl
 names_are ms tree (outcome.Entry file) repliable = refl
 names_are ms tree (outcome.Created file) repliable = refl
 names_are ms tree (outcome.Opened file) repliable = refl
-names_are ms tree (outcome.ListedPlus records) repliable = sym (length-map (dirents_in_bytes records.items) (pair_listed ms))
+names_are ms tree (outcome.ListedPlus records names) repliable = sym (length-map (dirents_in_bytes records.items) (pair_listed ms))
 names_are ms tree (outcome.Reply (said.Entry entry valid)) repliable = absurd repliable.0
 names_are ms tree (outcome.Reply (said.Negative valid)) repliable = refl
 names_are ms tree (outcome.Reply (said.Created entry valid fh)) repliable = absurd repliable.0
@@ -68,7 +68,7 @@ most_names : {A : Type 0} (tree : Tree) (o : Outcome A) → IsRepliable tree o �
 most_names tree (outcome.Entry file) repliable = omega arith
 most_names tree (outcome.Created file) repliable = omega arith
 most_names tree (outcome.Opened file) repliable = omega arith
-most_names tree (outcome.ListedPlus records) repliable = let most = repliable.1 in omega (arith, most)
+most_names tree (outcome.ListedPlus records names) repliable = let most = repliable.1 in omega (arith, most)
 most_names tree (outcome.Reply (said.Entry entry valid)) repliable = absurd repliable.0
 most_names tree (outcome.Reply (said.Negative valid)) repliable = omega arith
 most_names tree (outcome.Reply (said.Created entry valid fh)) repliable = absurd repliable.0

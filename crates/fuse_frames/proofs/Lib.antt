@@ -7,3 +7,4 @@ pub mod Sayings
 mod WrittenRecords
 pub mod ReplyCases
 pub mod SaidWithin
+pub mod LeftListing

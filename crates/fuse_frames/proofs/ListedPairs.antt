@@ -1,10 +1,10 @@
 -- The pairs of a list, written one after the other, and what they say.
 use Rattle.std.proofs.Common.{◌≡◌, ◌≤◌, ℕ, ◌+◌, ◌*◌, ◌/◌, ◌%◌, Bool, true, false, eqb, Some, None, List, [], ◌∷◌, ◌++◌, length, refl, sym, ap, subst, ◌∙◌, arith, append_assoc, map}
 use Rattle.std.specs.Prelude.{pos, cond, if◌then◌else◌}
-use Rattle.fk_wire.specs.Fields.{Field, InRange, sizes, spellings}
-use Rattle.fk_wire.specs.Entries.{EntryContent, missing, found, entry_of, entry_fields}
+use Rattle.fk_wire.specs.Fields.{InRange, sizes, spellings}
+use Rattle.fk_wire.specs.Entries.{EntryContent, missing, found, entry_of}
 use Rattle.fk_wire.specs.Dirents.{DirentContent, DirentPlusContent, dirent_fields, dirents, direntpluses, HaveRecordNames, HavePlusNames, HaveEntries}
-use Rattle.fk_wire.proofs.Spelled.{entry_and, pair_and, dirent_in_range, sizes_of_entry}
+use Rattle.fk_wire.proofs.Spelled.{sizes_of_entry}
 use Rattle.fk_wire.proofs.EntryFields.{is_entry}
 use Rattle.fuse_spec.specs.declared.Entry.{Entry}
 use Rattle.std.specs.Prelude.{◌<◌, ◌^◌}
@@ -34,42 +34,6 @@ listed valid e d = record {
       (attr_of e.attributes);
   dirent = d;
 }
-
--- a first pair, and the others
-pub listed_and : (p : DirentPlusContent) (ps : List DirentPlusContent) (old new : List ℕ) {all : List ℕ}
-    → new ≡ old ++ spellings (entry_fields p.entry_out (dirent_fields p.dirent []))
-    → old ++ spellings (direntpluses (p ∷ ps)) ≡ all → new ++ spellings (direntpluses ps) ≡ all
-listed_and p ps old new e whole =
-    let mid = old ++ spellings (entry_fields p.entry_out []) in
-    let parts : new ≡ mid ++ spellings (dirent_fields p.dirent []) =
-    e ∙ ap (λ (x : List ℕ). old ++ x) (entry_and p.entry_out (dirent_fields p.dirent [])) ∙ sym
-    (append_assoc old (spellings (entry_fields p.entry_out [])) (spellings (dirent_fields p.dirent []))) in
-    pair_and p ps old mid new refl parts whole
-
-listed_fits : (e : EntryContent) (d : DirentContent) (after : List Field)
-    → InRange (entry_fields e (dirent_fields d [])) → InRange after → InRange (entry_fields e (dirent_fields d after))
-listed_fits (missing valid nsec) d after h k = (h.0, (h.1.0, (h.1.1.0, dirent_in_range d after h.1.1.1 k)))
-listed_fits (found nodeid generation valid nsec a) d after h k = (
-  h.0,
-  (
-    h.1.0,
-    (
-      h.1.1.0,
-      (
-        h.1.1.1.0,
-        (
-          h.1.1.1.1.0,
-          (h.1.1.1.1.1.0, (h.1.1.1.1.1.1.0, (h.1.1.1.1.1.1.1.0, dirent_in_range d after h.1.1.1.1.1.1.1.1 k))),
-        ),
-      ),
-    ),
-  ),
-)
-
-pub listed_in_range : (p : DirentPlusContent) (ps : List DirentPlusContent)
-    → InRange (entry_fields p.entry_out (dirent_fields p.dirent [])) → InRange (direntpluses ps)
-    → InRange (direntpluses (p ∷ ps))
-listed_in_range p ps h k = listed_fits p.entry_out p.dirent (direntpluses ps) h k
 
 pub listed_entries : (valid : ℕ) (es : List Entry) (ds : List DirentContent) → HaveEntries (pairs_listed valid es ds)
 listed_entries valid (e ∷ es) (d ∷ ds) = (

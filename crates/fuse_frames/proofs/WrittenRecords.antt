@@ -12,6 +12,11 @@ use Rattle.fk_wire.specs.Replies.{records_reply, ReplyMessage, WrittenReply, Goe
 use Rattle.fk_wire.proofs.Frames.{length-spellings, reply_frame}
 use Rattle.fuse_frames.specs.ReplyTies.{AreWritten, framed_by, message_of}
 
+-- as long as their fields
+pub written_sizes : (ds : List DirentContent) (bytes : List ℕ) → AreWritten ds bytes → sizes (dirents ds) ≡ length bytes
+written_sizes ds bytes are = sym (length-spellings (dirents ds))
+    ∙ ap (λ (x : List ℕ). length x) (sym {b = spellings (dirents ds)} are.spelled)
+
 abbrev pub names_listing : (unique : ℕ) → List DirentContent → ReplyMessage
 names_listing unique ds = record { unique = unique; error = pos 0; content = records_reply ds }
 
@@ -30,8 +35,7 @@ pub names_listing_written : (unique : ℕ) (ds : List DirentContent) (bytes head
 names_listing_written unique ds bytes head new are small fits first whole =
     let body = spellings (dirents ds) in
     let none : IsErrorNumber (pos 0) = search (arith, ints) in
-    let total : sizes (dirents ds) ≡ length bytes =
-    sym (length-spellings (dirents ds)) ∙ ap (λ (x : List ℕ). length x) (sym {b = body} are.spelled) in
+    let total = written_sizes ds bytes are in
     let parts : new ≡ spellings (u32 (16 + length bytes) ∷ u32 0 ∷ u64 unique ∷ []) ++ body =
     whole ∙ ap (λ (x : List ℕ). x ++ bytes) first
     ∙ ap (λ (x : List ℕ). spellings (u32 (16 + length bytes) ∷ u32 0 ∷ u64 unique ∷ []) ++ x) are.spelled in

@@ -2,20 +2,19 @@
 
 ghost use Rattle.std.specs.Int.RustNames.{bit_and};
 ghost use Rattle.std.specs.Prelude.{◌≡◌, ◌≢◌, ◌≤◌, ◌+◌, ◌*◌, ◌/◌, ◌%◌, List, pos, negsuc, ◌-◌, Some, IfOk, length, map};
-ghost use Rattle.fk_wire.specs.Dirents.{DirentContent, dirents};
+ghost use Rattle.fk_wire.specs.Dirents.{DirentContent};
 ghost use Rattle.fk_wire.specs.Fields.{sizes};
 ghost use Rattle.fk_wire.specs.Opcodes.{latest_minor};
-ghost use Rattle.fk_wire.specs.Records.{records_in};
 ghost use Rattle.fk_wire.specs.Replies.{reply_body, reply_content, kind_of_content, reply_kind};
 ghost use Rattle.fk_wire.specs.Requests.{known_flags};
 ghost use Rattle.fuse_spec.specs.Values.Numbers.{max_transfer, max_validity};
 ghost use Rattle.fuse_spec.specs.Files.Operations as reply;
-ghost use Rattle.fuse_frames.specs.ReplyTies.{AreWritten, FitsRoom, reply_content_of, dirent_read, dirent_written, direntpluses_of, wire_body};
+ghost use Rattle.fuse_frames.specs.ReplyTies.{AreWritten, FitsRoom, reply_content_of, dirent_read, direntpluses_of, wire_body};
 ghost use Rattle.fuse_frames.specs.ReplyTies.{attr_of as attr_written};
 
 use crate::listing::put_listing;
 use crate::reply_frame::ReplyFrame;
-use fk_wire::{Attr, InitFlags, Opcode, Records, Reply, ReplyBody, put_listing_head};
+use fk_wire::{Attr, InitFlags, Opcode, Reply, ReplyBody, put_listing_head};
 use fuse_spec::{Attributes, Entry, Kind};
 use std::alloc::{AllocError, Allocator, Global};
 use std::marker::Model;
@@ -145,29 +144,28 @@ impl<A: Allocator> ReplyBuffer<A> {
         ReplyFrame::listing(Opcode::Readdir, unique, bytes)
     }
 
-    /// The answer to READDIRPLUS: the records, for which there is room, each with the entry of its name's file, or with
-    /// one of node 0. Each name leads to its file for this many milliseconds, at most a day. The types are those of
-    /// kinds (`type_of`).
+    /// The answer to READDIRPLUS: the bytes of its records, for which there is room, each behind the entry of its name's
+    /// file, or one of node 0. Each name leads to its file for this many milliseconds, at most a day. They are written as
+    /// `listed` has it.
     pub fn listed_plus(
         self,
         unique: u64,
         entries: &[Entry],
-        records: Records<'_>,
+        records: &[u8],
         found_ms: u64,
     ) -> ReplyFrame<A>
-        requires together { length entries.now ≡ length (records_in records) }
-        requires types { map dirent_written (map dirent_read (records_in records)) ≡ records_in records }
+        requires written { (ds : List DirentContent) × AreWritten ds records.now × (length entries.now ≡ length ds) }
         requires valid { found_ms ≤ max_validity }
-        requires room { 16 + (128 * length entries.now + sizes (dirents (records_in records))) ≤ self }
-        requires most { 128 * length entries.now + sizes (dirents (records_in records)) ≤ max_transfer }
-        ensures { result ≡ record {
-          unique = unique;
-          wire = reply.listed_plus
-              (direntpluses_of found_ms entries.now (map dirent_read (records_in records.entry)));
-        } }
+        requires room { 16 + (128 * length entries.now + length records.now) ≤ self }
+        requires most { 128 * length entries.now + length records.now ≤ max_transfer }
+        ensures { (ds : List DirentContent) → AreWritten ds records.now → length entries.now ≡ length ds
+            → result ≡ record {
+              unique = unique;
+              wire = reply.listed_plus (direntpluses_of found_ms entries.now (map dirent_read ds));
+            } }
     {
         let mut bytes = self.bytes;
-        let size = 128 * entries.len() + records.byte_len();
+        let size = 128 * entries.len() + records.len();
         put_listing_head(&mut bytes, unique, size);
         put_listing(&mut bytes, entries, records, found_ms);
         ReplyFrame::listing(Opcode::Readdirplus, unique, bytes)
