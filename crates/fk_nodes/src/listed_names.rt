@@ -55,9 +55,9 @@ pub fn names_of_direntpluses<A: Allocator + Copy>(
 ) -> Result<Listing<A>, AllocError>
     ensures { IfOk result (λ names. names ≡ map (λ pair. pair.dirent) (pairs_left_in pairs.entry)) }
 {
-    // A name has at most 255 bytes, so no push has to make room.
+    // Names of up to 16 bytes have room; longer ones make the text grow.
     let count = pairs.count_left();
-    let mut names = Listing::with_capacity(alloc, count, 255 * count)?;
+    let mut names = Listing::with_capacity(alloc, count, 16 * count)?;
     for pair in pairs {
         names.push(name_of_dirent(pair.dirent))?;
     }

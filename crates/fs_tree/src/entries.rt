@@ -155,7 +155,7 @@ impl<A: Allocator + Copy> Entries<A> {
             (filter (λ n. nat_lt after n.cookie) (map (in_directory 0) self.now)))) }
     {
         // A record has at least 32 bytes.
-        let most = self.names.len().min(size / 32);
+        let most = self.names.len().min(size / (more + 32));
         let mut records = Vec::with_capacity(self.alloc, most)?;
         let mut room = size;
         for (cookie, leaf) in self
