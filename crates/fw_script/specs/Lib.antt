@@ -4,6 +4,7 @@ pub mod Chunks
 pub mod Endings
 pub mod Forms
 pub mod Lines
+pub mod NumberLines
 pub mod Records
 pub mod Running
 pub mod Scripts
