@@ -3,8 +3,10 @@ pub mod Chunked
 pub mod Mounts
 pub mod Ending
 pub mod Names
+pub mod NumberEnds
 pub mod Numbering
 pub mod Printing
+pub mod ReadSoFar
 pub mod Saying
 pub mod SessionRuns
 pub mod Stepping

@@ -1,6 +1,6 @@
 //! What lines begin with.
 
-ghost use Rattle.std.specs.Prelude.{◌≡◌, ◌≢◌, ◌++◌, ◌∷◌, [], ℕ, List, IfSome, MatchOption, codes, option_copied};
+ghost use Rattle.std.specs.Prelude.{◌≡◌, ◌≢◌, ◌++◌, ◌∷◌, [], ℕ, List, MatchOption, codes, option_copied};
 ghost use Rattle.fw_script.specs.Forms.{form_words, read_name, word_name};
 ghost use Rattle.fuse_text.specs.Words.{words_of, words_left};
 
@@ -93,36 +93,12 @@ fn form_of_read(word: &[u8]) -> Option<ReadForm>
     }
 }
 
-/// The form that most lines begin with, and the text after its words, found without a search for where they end.
-#[inline(always)]
-fn split_common(line: &[u8]) -> Option<(Form, &[u8])>
-    ensures { IfSome result (λ r. words_of line.now ≡ form_words r.0 ++ words_of r.1.now) }
-{
-    match line {
-        [b't', b'a', b'k', b'e', b' ', rest @ ..] => Some((Form::Word(WordForm::Take), rest)),
-        [b'd', b'o', b' ', rest @ ..] => Some((Form::Word(WordForm::Do), rest)),
-        [b'w', b'r', b'i', b't', b'e', b' ', rest @ ..] => {
-            Some((Form::Word(WordForm::Write), rest))
-        }
-        [b's', b'e', b't', b't', b'l', b'e', b' ', rest @ ..] => {
-            Some((Form::Word(WordForm::Settle), rest))
-        }
-        [b'r', b'e', b'a', b'd', b' ', b'p', b' ', rest @ ..] => {
-            Some((Form::Read(ReadForm::Pending), rest))
-        }
-        _ => None,
-    }
-}
-
 /// The form of a line, and the text after its words.
 pub(crate) fn split_form(line: &[u8]) -> Option<(Form, Option<&[u8]>)>
     ensures { MatchOption result
         ((f : Form) (rest : List (List ℕ)) → words_of line.now ≢ form_words f ++ rest)
         (λ r. words_of line.now ≡ form_words r.0 ++ words_left (option_copied r.1)) }
 {
-    if let Some((form, rest)) = split_common(line) {
-        return Some((form, Some(rest)));
-    }
     let (first, rest) = split_word(line);
     match first {
         b"call" => {

@@ -9,6 +9,7 @@ mod form;
 mod line;
 mod lines;
 mod machine;
+mod number_lines;
 mod print;
 mod records;
 mod script;

@@ -11,6 +11,7 @@ ghost use Rattle.fuse_text.specs.Lines.{lines_left, lines_of};
 ghost use Rattle.fuse_text.specs.Words.{words_of};
 
 use crate::line::{Line, LineFault, read_line};
+use crate::number_lines::{line_of_number, read_number_line};
 use fuse_text::{Stop, find_far, split_at_first};
 use std::alloc::Allocator;
 
@@ -79,9 +80,19 @@ pub(crate) fn read_lines<A: Allocator>(
     ensures refused { IfErr result (JudgingEnds script.now) }
 {
     let mut lines = Vec::new(alloc);
+    let mut rest = Some(script);
     let mut number = 0;
-    for line in Lines::of(script) {
+    'lines: while let Some(text) = rest {
         number += 1;
+        if let Some((form, argument, behind)) = read_number_line(text) {
+            rest = Some(behind);
+            if lines.push(line_of_number(form, argument)).is_err() {
+                return Err(refused_lines(script));
+            }
+            continue;
+        }
+        let (line, behind) = split_at_first(text, b'\n', find_far(text, b'\n'));
+        rest = behind;
         if is_passed_over(line) {
             continue;
         }

@@ -2,7 +2,7 @@
 
 use fuse_text::{Words, split_at, split_word};
 use fw_script::{Lines, run_script};
-use std::alloc::Global;
+use std::alloc::{AllocError, Global};
 use std::process::Abort;
 use std::test::Fail;
 
@@ -139,19 +139,59 @@ fn run_gives(alloc: Global, script: &[u8], status: u8, output: &[u8], fault: &[u
     given == status && out.as_slice() == output && faults.as_slice() == fault
 }
 
-/// Checks that each of the lines alone is reported to have this fault, and is not run.
-fn check_lines(rt: &impl Abort, alloc: Global, lines: &[&[u8]], fault: &[u8]) {
+/// A line with the line feed that ends it.
+fn ended(alloc: Global, line: &[u8]) -> Result<Vec<u8>, AllocError> {
+    let mut text = line.to_vec(alloc)?;
+    text.push(b'\n')?;
+    Ok(text)
+}
+
+/// Checks that each of the lines alone is reported to have this fault, and is not run, whether or not a line feed ends it.
+fn check_lines(
+    rt: &impl Abort,
+    alloc: Global,
+    lines: &[&[u8]],
+    fault: &[u8],
+) -> Result<(), AllocError> {
     for line in lines {
         assert!(rt; run_gives(alloc, line, 1, b"", fault), "{:?}", line);
+        let text = ended(alloc, line)?;
+        assert!(rt; run_gives(alloc, &text, 1, b"", fault), "{:?}", text);
     }
+    Ok(())
 }
 
 #[test]
 fn tells_the_fault_of_each_line(rt: HostRuntime) -> Result<(), Fail> {
-    check_lines(&rt, rt.alloc(), &UNKNOWN_EVENT, b"line 1: unknown event\n");
-    check_lines(&rt, rt.alloc(), &WRONG_WORDS, b"line 1: wrong words\n");
-    check_lines(&rt, rt.alloc(), &BAD_NUMBER, b"line 1: bad number\n");
-    check_lines(&rt, rt.alloc(), &BAD_TEXT, b"line 1: bad text\n");
+    check_lines(&rt, rt.alloc(), &UNKNOWN_EVENT, b"line 1: unknown event\n")?;
+    check_lines(&rt, rt.alloc(), &WRONG_WORDS, b"line 1: wrong words\n")?;
+    check_lines(&rt, rt.alloc(), &BAD_NUMBER, b"line 1: bad number\n")?;
+    check_lines(&rt, rt.alloc(), &BAD_TEXT, b"line 1: bad text\n")?;
+    Ok(())
+}
+
+/// Lines of one number, and what each comes to on a new world.
+static ONE_NUMBER: [(&[u8], &[u8]); 9] = [
+    (b"read p 0", b"refused 4 NotReady\n"),
+    (b"read f 1", b"refused 4 NotReady\n"),
+    (b"take 0", b"refused 2 NoSuch\n"),
+    (b"do 2", b"refused 2 NoSuch\n"),
+    (b"again 2", b"refused 6 NoCopy\n"),
+    (b"write 0", b"refused 2 NoSuch\n"),
+    (b"settle 0", b"refused 2 NoSuch\n"),
+    (b"tick 9007199254740991", b"now 9007199254740991\n"),
+    (b"evict 2", b"refused 4 NotReady\n"),
+];
+
+#[test]
+fn reads_lines_of_one_number_whether_or_not_a_line_feed_ends_them(
+    rt: HostRuntime,
+) -> Result<(), Fail> {
+    for (line, output) in &ONE_NUMBER {
+        assert!(rt; run_gives(rt.alloc(), line, 0, output, b""), "{:?}", line);
+        let text = ended(rt.alloc(), line)?;
+        assert!(rt; run_gives(rt.alloc(), &text, 0, output, b""), "{:?}", text);
+    }
     Ok(())
 }
 
